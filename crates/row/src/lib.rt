@@ -14,6 +14,7 @@ use machine::Machine;
 use terms::Refusal;
 
 // A row under one of Wolfram's 256 elementary rules.
+#[derive(Drop)]
 pub struct Row {
     rule: u32,
     cells: [bool; 256],

@@ -1,0 +1,4 @@
+pub mod Buffers
+pub mod Turns
+pub mod Heads
+pub mod Loops

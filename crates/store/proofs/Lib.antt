@@ -1,0 +1,3 @@
+pub mod Refused
+pub mod Paired
+pub mod Counted

@@ -1,0 +1,3 @@
+pub mod Slots
+pub mod Pairs
+pub mod Counting

@@ -1,0 +1,10 @@
+pub mod Sound
+pub mod Forward
+pub mod Shelf
+pub mod Holding
+pub mod Climbing
+pub mod Walks
+pub mod Parts
+pub mod Agreeing
+pub mod Keeping
+pub mod Kept

@@ -1,0 +1,5 @@
+pub mod Answers
+pub mod Viewing
+pub mod Rules
+pub mod Model
+pub mod Promises
