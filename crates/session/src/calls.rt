@@ -16,6 +16,16 @@ use viewer::Answer;
 use viewer::Call;
 use viewer::Watch;
 
+// The answer that a call's result makes.
+macro_rules! answer {
+    ($case:ident, $result:expr) => {
+        match $result {
+            Ok(x) => Answer::$case(x),
+            Err(why) => Answer::Refused(why),
+        }
+    };
+}
+
 impl<M: Machine, S: Source, T: Store> Session<M, S, T> {
     // Opens the session with so many slots at scan 0, and answers the total.
     pub fn open(&mut self, slots: u32) -> Result<u32, Refusal>
@@ -137,13 +147,13 @@ impl<M: Machine, S: Source, T: Store> Session<M, S, T> {
         ensures here { λ _. ⌜ here M·Machine S·Source T·Store (now (self .exit)) ≡ called (frame M·Machine S·Source T·Store (now (self .entry))) (here M·Machine S·Source T·Store (now (self .entry))) call ⌝ }
     {
         match call {
-            Call::Open(slots) => answer_total(self.open(slots)),
-            Call::Ahead => answer_reached(self.ahead()),
-            Call::Back => answer_returned(self.back()),
-            Call::Seek(watch) => answer_found(self.seek(watch)),
-            Call::Look(word) => answer_word(self.look(word)),
-            Call::Count => answer_steps(self.count()),
-            Call::Turn => answer_turned(self.turn()),
+            Call::Open(slots) => answer!(Total, self.open(slots)),
+            Call::Ahead => answer!(Reached, self.ahead()),
+            Call::Back => answer!(Returned, self.back()),
+            Call::Seek(watch) => answer!(Found, self.seek(watch)),
+            Call::Look(word) => answer!(Word, self.look(word)),
+            Call::Count => answer!(Steps, self.count()),
+            Call::Turn => answer!(Turned, self.turn()),
         }
     }
 }
@@ -155,68 +165,5 @@ fn word_of(watch: Watch) -> u32
     match watch {
         Watch::Equal { word, mask: _, value: _ } => word,
         Watch::Ones { word, least: _ } => word,
-    }
-}
-
-fn answer_total(r: Result<u32, Refusal>) -> Answer
-    ensures { λ a. ⌜ a ≡ replied Total r ⌝ }
-{
-    match r {
-        Ok(x) => Answer::Total(x),
-        Err(why) => Answer::Refused(why),
-    }
-}
-
-fn answer_reached(r: Result<Scan, Refusal>) -> Answer
-    ensures { λ a. ⌜ a ≡ replied Reached r ⌝ }
-{
-    match r {
-        Ok(x) => Answer::Reached(x),
-        Err(why) => Answer::Refused(why),
-    }
-}
-
-fn answer_returned(r: Result<Scan, Refusal>) -> Answer
-    ensures { λ a. ⌜ a ≡ replied Returned r ⌝ }
-{
-    match r {
-        Ok(x) => Answer::Returned(x),
-        Err(why) => Answer::Refused(why),
-    }
-}
-
-fn answer_found(r: Result<Option<Scan>, Refusal>) -> Answer
-    ensures { λ a. ⌜ a ≡ replied Found r ⌝ }
-{
-    match r {
-        Ok(x) => Answer::Found(x),
-        Err(why) => Answer::Refused(why),
-    }
-}
-
-fn answer_word(r: Result<u32, Refusal>) -> Answer
-    ensures { λ a. ⌜ a ≡ replied Word r ⌝ }
-{
-    match r {
-        Ok(x) => Answer::Word(x),
-        Err(why) => Answer::Refused(why),
-    }
-}
-
-fn answer_steps(r: Result<u64, Refusal>) -> Answer
-    ensures { λ a. ⌜ a ≡ replied Steps r ⌝ }
-{
-    match r {
-        Ok(x) => Answer::Steps(x),
-        Err(why) => Answer::Refused(why),
-    }
-}
-
-fn answer_turned(r: Result<Scan, Refusal>) -> Answer
-    ensures { λ a. ⌜ a ≡ replied Turned r ⌝ }
-{
-    match r {
-        Ok(x) => Answer::Turned(x),
-        Err(why) => Answer::Refused(why),
     }
 }

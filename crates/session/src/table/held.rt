@@ -13,7 +13,7 @@ use viewer::Held;
 
 impl Table {
     // A table that holds nothing.
-    pub fn new() -> Table
+    pub(crate) fn new() -> Table
         ensures { λ r. ⌜ records r ≡ [] ⌝ }
     {
         let none = Held { scan: Scan(0), place: None };
@@ -21,14 +21,14 @@ impl Table {
     }
 
     // How many scans are held.
-    pub fn len(&self) -> usize
+    pub(crate) fn len(&self) -> usize
         ensures { λ r. ⌜ r ≡ length (records (now (self .entry))) ⌝ }
     {
         self.len
     }
 
     // The highest held scan.
-    pub fn last(&self) -> Option<Held>
+    pub(crate) fn last(&self) -> Option<Held>
         ensures { λ r. ⌜ r ≡ top (records (now (self .entry))) ⌝ }
     {
         if self.len == 0 {
@@ -38,7 +38,7 @@ impl Table {
     }
 
     // The lowest held scan, 0 where none is held.
-    pub fn floor(&self) -> Scan
+    pub(crate) fn floor(&self) -> Scan
         ensures { λ r. ⌜ r .0 ≡ floor (records (now (self .entry))) ⌝ }
     {
         if self.len == 0 {
@@ -48,7 +48,7 @@ impl Table {
     }
 
     // One record more, where there is room.
-    pub fn push(&mut self, entry: Held)
+    pub(crate) fn push(&mut self, entry: Held)
         ensures { λ _. ⌜ records (now (self .exit)) ≡ cond (ltb (length (records (now (self .entry)))) 32) (records (now (self .entry)) ++ (entry ∷ [])) (records (now (self .entry))) ⌝ }
     {
         if self.len < 32 {
@@ -58,7 +58,7 @@ impl Table {
     }
 
     // One record less, where there is one.
-    pub fn pop(&mut self)
+    pub(crate) fn pop(&mut self)
         ensures { λ _. ⌜ records (now (self .exit)) ≡ take (length (records (now (self .entry))) - 1) (records (now (self .entry))) ⌝ }
     {
         if self.len > 0 {
