@@ -22,7 +22,7 @@ pub unmarked : (words : List ℕ) (width : ℕ) → slotsOf (replicate 64 false)
 unmarked words width =
     numbered-empty (slotOf (replicate 64 false) words width) (count width (length words))
     (λ j h. cond-false (getD (replicate 64 false) j false) (held (copy words width j)) empty
-        (⊎-elim (λ k. getD-replicate 64 j false false k) (λ k. getD-past (replicate 64 false) j false (omega (arith, length-replicate 64 false))) (cases-lt j 64)))
+    (⊎-elim (λ k. getD-replicate 64 j false false k) (λ k. getD-past (replicate 64 false) j false (omega (arith, length-replicate 64 false))) (cases-lt j 64)))
 
 -- the number of slots
 pub slots-count : (marks : List Bool) (words : List ℕ) (width : ℕ) → length (slotsOf marks words width) ≡ count width (length words)
@@ -35,10 +35,10 @@ copy-other words new width slot j h k e ne =
     let a : slot * width ≤ length words = omega (arith, copy-end words width slot h) in
     ⊎-elim (λ p. absurd (ne p))
     (⊎-elim
-        (λ p.
-            let q : j * width + width ≤ slot * width = row-before j slot width p in
-            sym (drop-take (j * width) width (putMid (slot * width) width words new)) ∙ ap (drop (j * width)) (take-putMid-below (slot * width) width words new (j * width + width) q a) ∙ drop-take (j * width) width words)
-        (λ p. ap (take width) (drop-putMid (slot * width) width words new (j * width) (row-before slot j width p) a e)))
+    (λ p.
+    let q : j * width + width ≤ slot * width = row-before j slot width p in
+    sym (drop-take (j * width) width (putMid (slot * width) width words new)) ∙ ap (drop (j * width)) (take-putMid-below (slot * width) width words new (j * width + width) q a) ∙ drop-take (j * width) width words)
+    (λ p. ap (take width) (drop-putMid (slot * width) width words new (j * width) (row-before slot j width p) a e)))
     (cases-order j slot)
 
 -- the slot's own words

@@ -45,8 +45,8 @@ pub count-room : (width room : ℕ) → count width room * width ≤ room
 count-room width room =
     cond-both (leb 1 width) (cond (leb width 32) (min 64 (room / width)) 0) 0 (λ n. n * width ≤ room)
     (λ _. cond-both (leb width 32) (min 64 (room / width)) 0 (λ n. n * width ≤ room)
-        (λ _. omega (arith, mul-le (min 64 (room / width)) width (room / width) width (omega arith) (omega arith), div-mul-le-self room width))
-        (λ _. omega arith))
+    (λ _. omega (arith, mul-le (min 64 (room / width)) width (room / width) width (omega arith) (omega arith), div-mul-le-self room width))
+    (λ _. omega arith))
     (λ _. omega arith)
 
 pub count-few : (width room : ℕ) → count width room ≤ 64
@@ -68,7 +68,7 @@ pub slots-sized : (marks : List Bool) (words : List ℕ) (width : ℕ) → Sized
 slots-sized marks words width =
     numbered-sized width (slotOf marks words width) 0 (count width (length words))
     (λ j _ h.
-        let k : j < count width (length words) = omega arith in
-        cond-both (getD marks j false) (held (copy words width j)) empty (Fit width)
-        (λ _. length-take-le width (drop (j * width) words) (omega (arith, length-drop (j * width) words, copy-end words width j k)))
-        (λ _. tt))
+    let k : j < count width (length words) = omega arith in
+    cond-both (getD marks j false) (held (copy words width j)) empty (Fit width)
+    (λ _. length-take-le width (drop (j * width) words) (omega (arith, length-drop (j * width) words, copy-end words width j k)))
+    (λ _. tt))

@@ -74,7 +74,11 @@ impl<'a> Copies<'a> {
         ensures words { λ r. ⌜ words-of r ≡ now (words .entry) ⌝ }
         ensures lent { λ r. ⌜ name (r .words) ≡ name (words .entry) ⌝ }
     {
-        Copies { words, width, marks: [false; 64] }
+        Copies {
+            words,
+            width,
+            marks: [false; 64],
+        }
     }
 
     // The slot's words into the buffer.

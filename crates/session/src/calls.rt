@@ -140,6 +140,13 @@ impl<M: Machine, S: Source, T: Store> Session<M, S, T> {
         Ok(scan)
     }
 
+    // The store, to be looked at.
+    pub fn store(&self) -> &T
+        ensures { λ r. ⌜ now r ≡ now (self .entry) .store ⌝ }
+    {
+        &self.store
+    }
+
     // Any of the seven.
     pub fn call(&mut self, call: Call) -> Answer
         ensures answer { λ r. ⌜ r ≡ answered (frame M·Machine S·Source T·Store (now (self .entry))) (here M·Machine S·Source T·Store (now (self .entry))) call ⌝ }

@@ -21,12 +21,12 @@ pub goes : (w w′ : ℕ) (s s′ : List Slot) (slot : ℕ) → slot < length (p
 goes w w′ s s′ slot h =
     ⊎-elim
     (λ e.
-        ⊎-elim
-        (λ f. (eqb-true w w′ e, cond-true (eqb w w′) _ [] e ∙ cond-true (leb (length s + length s′) 64) (s ++ s′) [] f))
-        (λ f.
-            let n : length (paired w w′ s s′) ≡ 0 = ap length (cond-true (eqb w w′) _ [] e ∙ cond-false (leb (length s + length s′) 64) (s ++ s′) [] f) in
-            absurd (omega arith))
-        (cases-bool (leb (length s + length s′) 64)))
+    ⊎-elim
+    (λ f. (eqb-true w w′ e, cond-true (eqb w w′) _ [] e ∙ cond-true (leb (length s + length s′) 64) (s ++ s′) [] f))
+    (λ f.
+    let n : length (paired w w′ s s′) ≡ 0 = ap length (cond-true (eqb w w′) _ [] e ∙ cond-false (leb (length s + length s′) 64) (s ++ s′) [] f) in
+    absurd (omega arith))
+    (cases-bool (leb (length s + length s′) 64)))
     (λ e. let n : length (paired w w′ s s′) ≡ 0 = ap length (cond-false (eqb w w′) _ [] e) in absurd (omega arith))
     (cases-bool (eqb w w′))
 
@@ -34,21 +34,23 @@ goes w w′ s s′ slot h =
 pub set-first : (w w′ : ℕ) (s s′ : List Slot) (slot : ℕ) (v : Slot) → slot < length s → paired w w′ (set s slot v) s′ ≡ set (paired w w′ s s′) slot v
 set-first w w′ s s′ slot v h =
     rw (length-set s slot v)
-    (elim (eqb w w′) as (λ b. cond b (cond (leb (length s + length s′) 64) (set s slot v ++ s′) []) [] ≡ set (cond b (cond (leb (length s + length s′) 64) (s ++ s′) []) []) slot v)
-    [ true ↦
-        elim (leb (length s + length s′) 64) as (λ b. cond b (set s slot v ++ s′) [] ≡ set (cond b (s ++ s′) []) slot v)
-        [ true ↦ sym (set-append-left s s′ slot v h) | false ↦ refl ]
-    | false ↦ refl ])
+    (elim (eqb w w′) as (λ b. cond b (cond (leb (length s + length s′) 64) (set s slot v ++ s′) []) [] ≡ set (cond b (cond (leb (length s + length s′) 64) (s ++ s′) []) []) slot v) [
+      | true ↦
+          elim (leb (length s + length s′) 64) as (λ b. cond b (set s slot v ++ s′) [] ≡ set (cond b (s ++ s′) []) slot v)
+          [ true ↦ sym (set-append-left s s′ slot v h) | false ↦ refl ]
+      | false ↦ refl
+    ])
 
 -- a slot of the second store set
 pub set-second : (w w′ : ℕ) (s s′ : List Slot) (slot : ℕ) (v : Slot) → length s ≤ slot → paired w w′ s (set s′ (slot - length s) v) ≡ set (paired w w′ s s′) slot v
 set-second w w′ s s′ slot v h =
     rw (length-set s′ (slot - length s) v)
-    (elim (eqb w w′) as (λ b. cond b (cond (leb (length s + length s′) 64) (s ++ set s′ (slot - length s) v) []) [] ≡ set (cond b (cond (leb (length s + length s′) 64) (s ++ s′) []) []) slot v)
-    [ true ↦
-        elim (leb (length s + length s′) 64) as (λ b. cond b (s ++ set s′ (slot - length s) v) [] ≡ set (cond b (s ++ s′) []) slot v)
-        [ true ↦ sym (set-append-right s s′ (length s) slot v refl h) | false ↦ refl ]
-    | false ↦ refl ])
+    (elim (eqb w w′) as (λ b. cond b (cond (leb (length s + length s′) 64) (s ++ set s′ (slot - length s) v) []) [] ≡ set (cond b (cond (leb (length s + length s′) 64) (s ++ s′) []) []) slot v) [
+      | true ↦
+          elim (leb (length s + length s′) 64) as (λ b. cond b (s ++ set s′ (slot - length s) v) [] ≡ set (cond b (s ++ s′) []) slot v)
+          [ true ↦ sym (set-append-right s s′ (length s) slot v refl h) | false ↦ refl ]
+      | false ↦ refl
+    ])
 
 -- what a slot of the pair holds
 pub get-first : (w w′ : ℕ) (s s′ : List Slot) (slot : ℕ) → slot < length (paired w w′ s s′) → slot < length s → getD (paired w w′ s s′) slot empty ≡ getD s slot empty
@@ -64,36 +66,40 @@ within-second w w′ s s′ slot h k = omega (arith, ap length (goes w w′ s s�
 -- a put into the pair is a put into the store that has the slot
 pub put-first : (w w′ : ℕ) (s s′ : List Slot) (slot : ℕ) (words : List ℕ) → slot < length (paired w w′ s s′) → slot < length s
     → (putting w s slot words ≡ putting w (paired w w′ s s′) slot words) × (paired w w′ (puts w s slot words) s′ ≡ puts w (paired w w′ s s′) slot words)
-put-first w w′ s s′ slot words h k =
-    (is-put w s slot words k ∙ sym (is-put w (paired w w′ s s′) slot words h),
-    elim (eqb (length words) w) as (λ b. paired w w′ (cond b (set s slot (held words)) s) s′ ≡ cond b (set (paired w w′ s s′) slot (held words)) (paired w w′ s s′))
-    [ true ↦ set-first w w′ s s′ slot (held words) k | false ↦ refl ])
+put-first w w′ s s′ slot words h k = (
+  is-put w s slot words k ∙ sym (is-put w (paired w w′ s s′) slot words h),
+  elim (eqb (length words) w) as (λ b. paired w w′ (cond b (set s slot (held words)) s) s′ ≡ cond b (set (paired w w′ s s′) slot (held words)) (paired w w′ s s′))
+      [ true ↦ set-first w w′ s s′ slot (held words) k | false ↦ refl ],
+)
 
 pub put-second : (w w′ : ℕ) (s s′ : List Slot) (slot : ℕ) (words : List ℕ) → slot < length (paired w w′ s s′) → length s ≤ slot
     → (putting w′ s′ (slot - length s) words ≡ putting w (paired w w′ s s′) slot words) × (paired w w′ s (puts w′ s′ (slot - length s) words) ≡ puts w (paired w w′ s s′) slot words)
 put-second w w′ s s′ slot words h k =
-    let e = goes w w′ s s′ slot h .0 in
-    (is-put w′ s′ (slot - length s) words (within-second w w′ s s′ slot h k) ∙ ap (λ v. cond (eqb (length words) v) (Ok tt) (Err WrongWidth)) (sym e) ∙ sym (is-put w (paired w w′ s s′) slot words h),
-    ap (λ v. paired w w′ s (puts v s′ (slot - length s) words)) (sym e) ∙
-    (elim (eqb (length words) w) as (λ b. paired w w′ s (cond b (set s′ (slot - length s) (held words)) s′) ≡ cond b (set (paired w w′ s s′) slot (held words)) (paired w w′ s s′))
-    [ true ↦ set-second w w′ s s′ slot (held words) k | false ↦ refl ]))
+    let e = goes w w′ s s′ slot h .0 in (
+      is-put w′ s′ (slot - length s) words (within-second w w′ s s′ slot h k) ∙ ap (λ v. cond (eqb (length words) v) (Ok tt) (Err WrongWidth)) (sym e) ∙ sym (is-put w (paired w w′ s s′) slot words h),
+      ap (λ v. paired w w′ s (puts v s′ (slot - length s) words)) (sym e) ∙
+          (elim (eqb (length words) w) as (λ b. paired w w′ s (cond b (set s′ (slot - length s) (held words)) s′) ≡ cond b (set (paired w w′ s s′) slot (held words)) (paired w w′ s s′))
+          [ true ↦ set-second w w′ s s′ slot (held words) k | false ↦ refl ]),
+    )
 
 -- a get from the pair
 pub got-first : (w w′ : ℕ) (s s′ : List Slot) (slot : ℕ) (buffer : List ℕ) → slot < length (paired w w′ s s′) → slot < length s
     → (getting w s slot (length buffer) ≡ getting w (paired w w′ s s′) slot (length buffer)) × (got w s slot buffer ≡ got w (paired w w′ s s′) slot buffer)
 got-first w w′ s s′ slot buffer h k =
-    let e = sym (get-first w w′ s s′ slot h k) in
-    (is-get w s slot (length buffer) k ∙ ap (λ x. cond (eqb (length buffer) w) (taking x) (Err WrongWidth)) e ∙ sym (is-get w (paired w w′ s s′) slot (length buffer) h),
-    ap (λ x. cond (eqb (length buffer) w) (filled x buffer) buffer) e)
+    let e = sym (get-first w w′ s s′ slot h k) in (
+      is-get w s slot (length buffer) k ∙ ap (λ x. cond (eqb (length buffer) w) (taking x) (Err WrongWidth)) e ∙ sym (is-get w (paired w w′ s s′) slot (length buffer) h),
+      ap (λ x. cond (eqb (length buffer) w) (filled x buffer) buffer) e,
+    )
 
 pub got-second : (w w′ : ℕ) (s s′ : List Slot) (slot : ℕ) (buffer : List ℕ) → slot < length (paired w w′ s s′) → length s ≤ slot
     → (getting w′ s′ (slot - length s) (length buffer) ≡ getting w (paired w w′ s s′) slot (length buffer)) × (got w′ s′ (slot - length s) buffer ≡ got w (paired w w′ s s′) slot buffer)
 got-second w w′ s s′ slot buffer h k =
     let e = sym (get-second w w′ s s′ slot h k) in
-    let f = sym (goes w w′ s s′ slot h .0) in
-    (is-get w′ s′ (slot - length s) (length buffer) (within-second w w′ s s′ slot h k) ∙ ap (λ v. cond (eqb (length buffer) v) (taking (getD s′ (slot - length s) empty)) (Err WrongWidth)) f
-    ∙ ap (λ x. cond (eqb (length buffer) w) (taking x) (Err WrongWidth)) e ∙ sym (is-get w (paired w w′ s s′) slot (length buffer) h),
-    ap (λ v. cond (eqb (length buffer) v) (filled (getD s′ (slot - length s) empty) buffer) buffer) f ∙ ap (λ x. cond (eqb (length buffer) w) (filled x buffer) buffer) e)
+    let f = sym (goes w w′ s s′ slot h .0) in (
+      is-get w′ s′ (slot - length s) (length buffer) (within-second w w′ s s′ slot h k) ∙ ap (λ v. cond (eqb (length buffer) v) (taking (getD s′ (slot - length s) empty)) (Err WrongWidth)) f
+          ∙ ap (λ x. cond (eqb (length buffer) w) (taking x) (Err WrongWidth)) e ∙ sym (is-get w (paired w w′ s s′) slot (length buffer) h),
+      ap (λ v. cond (eqb (length buffer) v) (filled (getD s′ (slot - length s) empty) buffer) buffer) f ∙ ap (λ x. cond (eqb (length buffer) w) (filled x buffer) buffer) e,
+    )
 
 -- a free in the pair
 pub free-first : (w w′ : ℕ) (s s′ : List Slot) (slot : ℕ) → slot < length (paired w w′ s s′) → slot < length s → (freeing s slot ≡ freeing (paired w w′ s s′) slot) × (paired w w′ (frees s slot) s′ ≡ frees (paired w w′ s s′) slot)

@@ -27,8 +27,8 @@ pub paired-few : (wide wide′ : ℕ) (slots slots′ : List Slot) → length (p
 paired-few wide wide′ slots slots′ =
     cond-both (eqb wide wide′) (cond (leb (length slots + length slots′) 64) (slots ++ slots′) []) [] (λ l. length l ≤ 64)
     (λ _. cond-both (leb (length slots + length slots′) 64) (slots ++ slots′) [] (λ l. length l ≤ 64)
-        (λ e. omega (arith, length-append slots slots′, leb-true (length slots + length slots′) 64 e))
-        (λ _. omega arith))
+    (λ e. omega (arith, length-append slots slots′, leb-true (length slots + length slots′) 64 e))
+    (λ _. omega arith))
     (λ _. omega arith)
 
 -- the snapshots of two lists of slots in one
@@ -41,6 +41,6 @@ pub paired-sized : (wide wide′ : ℕ) (slots slots′ : List Slot) → Sized w
 paired-sized wide wide′ slots slots′ h h′ =
     cond-both (eqb wide wide′) (cond (leb (length slots + length slots′) 64) (slots ++ slots′) []) [] (λ l. Sized wide l)
     (λ e. cond-both (leb (length slots + length slots′) 64) (slots ++ slots′) [] (λ l. Sized wide l)
-        (λ _. sized-both wide slots slots′ h (subst (λ w. Sized w slots′) (sym (eqb-true wide wide′ e)) h′))
-        (λ _. tt))
+    (λ _. sized-both wide slots slots′ h (subst (λ w. Sized w slots′) (sym (eqb-true wide wide′ e)) h′))
+    (λ _. tt))
     (λ _. tt)

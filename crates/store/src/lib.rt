@@ -3,7 +3,6 @@ mod pair;
 
 pub use pair::Pair;
 pub use pair::PairStore;
-
 ghost use Prim.Native.Nat.{ℕ, _≤_};
 ghost use Rattle.store.specs.Slots.{Slot, Sized, putting, puts, getting, got, freeing, frees};
 ghost use lib.ListN.{length};

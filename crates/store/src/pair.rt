@@ -33,6 +33,20 @@ impl<F: Store, S: Store> Pair<F, S> {
     {
         Pair { first, second }
     }
+
+    // The first of the two, to be looked at.
+    pub fn first(&self) -> &F
+        ensures { λ r. ⌜ now r ≡ now (self .entry) .first ⌝ }
+    {
+        &self.first
+    }
+
+    // The second.
+    pub fn second(&self) -> &S
+        ensures { λ r. ⌜ now r ≡ now (self .entry) .second ⌝ }
+    {
+        &self.second
+    }
 }
 
 pub impl<F: Store, S: Store> Store for Pair<F, S> as PairStore {

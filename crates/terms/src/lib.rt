@@ -1,6 +1,9 @@
 // The words that every layer shares: scan numbers, word places, refusals.
 ghost use Rattle.terms.specs.Refusals.{number, place as placed};
+ghost use Rattle.terms.specs.declared.Failure.the-variants.{Refused, NoMemory};
 ghost use mathlib.Core.Path.{_≡_};
+use std::alloc::AllocError;
+use std::fmt;
 
 // The number of a scan: 0 for the first, the total for the end of the list.
 #[derive(Clone, Copy, PartialEq, Eq, Debug)]
@@ -121,5 +124,39 @@ impl Refusal {
             Refusal::NoEnd(at) => Some(at),
             _ => None,
         }
+    }
+}
+
+// `12 at 1`: the number and, where there is one, the place.
+pub impl fmt::Display for Refusal as RefusalDisplay {
+    fn fmt<W: fmt::Write>(&self, f: &mut fmt::Formatter<W>) -> fmt::Result {
+        let number = self.number();
+        match self.place() {
+            Some(Place(at)) => write!(f, "{number} at {at}"),
+            None => write!(f, "{number}"),
+        }
+    }
+}
+
+// Why a call that takes memory comes to nothing: it is turned down, or there is no memory.
+#[derive(Clone, Copy, Debug)]
+pub enum Failure {
+    Refused(Refusal),
+    NoMemory,
+}
+
+pub impl From<Refusal> for Failure as FailureFromRefusal {
+    ghost converts = { λ refusal r. r ≡ Refused refusal };
+
+    fn from(refusal: Refusal) -> Failure {
+        Failure::Refused(refusal)
+    }
+}
+
+pub impl From<AllocError> for Failure as FailureFromAlloc {
+    ghost converts = { λ _ r. r ≡ NoMemory };
+
+    fn from(_e: AllocError) -> Failure {
+        Failure::NoMemory
     }
 }

@@ -36,6 +36,11 @@ returns c =
     let h : c .args .slot < count (c .args .self .now .width) (length (c .args .self .now .words .now)) = omega arith in
     let h′ : c .args .slot < length (slotsOf (c .args .self .now .marks) (c .args .self .now .words .now) (c .args .self .now .width)) = omega arith in
     let m : getD (c .args .self .now .marks) (c .args .slot) false ≡ true = cc in
-    record { value = good-free (slotsOf (c .args .self .now .marks) (c .args .self .now .words .now) (c .args .self .now .width)) (c .args .slot) (copy (c .args .self .now .words .now) (c .args .self .now .width) (c .args .slot)) h′ (marked-held (c .args .self .now .marks) (c .args .self .now .words .now) (c .args .self .now .width) (c .args .slot) h m);
-        after = cleared (c .args .self .now .marks) (c .mark-self .result) (c .args .self .now .words .now) (c .args .self .now .width) (c .args .slot) (c .mark-self .ensures .here) (c .mark-self .ensures .others);
-        width = refl; tidy = λ t. t; words = refl; lent = refl }
+    record {
+      value = good-free (slotsOf (c .args .self .now .marks) (c .args .self .now .words .now) (c .args .self .now .width)) (c .args .slot) (copy (c .args .self .now .words .now) (c .args .self .now .width) (c .args .slot)) h′ (marked-held (c .args .self .now .marks) (c .args .self .now .words .now) (c .args .self .now .width) (c .args .slot) h m);
+      after = cleared (c .args .self .now .marks) (c .mark-self .result) (c .args .self .now .words .now) (c .args .self .now .width) (c .args .slot) (c .mark-self .ensures .here) (c .mark-self .ensures .others);
+      width = refl;
+      tidy = λ t. t;
+      words = refl;
+      lent = refl;
+    }

@@ -63,17 +63,19 @@ returns c =
     let d : (at + c .args .self .now .width) - at ≡ c .args .self .now .width = omega arith in
     let q = c .copy-from-slice .ensures .after in
     let l = same-length (c .args .self .now .words .now) (c .args .words .now) (c .args .self .now .width) (c .args .slot) h (c .if-words-self .left) in
-    record { value = e .0;
-        after =
-            ap (λ k. slotsOf (c .mark-self .result) (putMid at k (c .args .self .now .words .now) (c .copy-from-slice .last .self)) (c .args .self .now .width)) d ∙
-            ap (λ x. slotsOf (c .mark-self .result) (putMid at (c .args .self .now .width) (c .args .self .now .words .now) x) (c .args .self .now .width)) q ∙
-            written (c .args .self .now .marks) (c .mark-self .result) (c .args .self .now .words .now) (c .args .words .now) (c .args .self .now .width) (c .args .slot) h (c .if-words-self .left) l (c .mark-self .ensures .here) (c .mark-self .ensures .others) ∙
-            e .1;
-        width = refl;
-        tidy = λ t. t;
-        rest =
-            ap (λ m. drop (count (c .args .self .now .width) m * c .args .self .now .width) (putMid at ((at + c .args .self .now .width) - at) (c .args .self .now .words .now) (c .copy-from-slice .last .self))) (ap (λ k. length (putMid at k (c .args .self .now .words .now) (c .copy-from-slice .last .self))) d ∙ ap (λ x. length (putMid at (c .args .self .now .width) (c .args .self .now .words .now) x)) q ∙ l) ∙
-            ap (λ k. drop (count (c .args .self .now .width) (length (c .args .self .now .words .now)) * c .args .self .now .width) (putMid at k (c .args .self .now .words .now) (c .copy-from-slice .last .self))) d ∙
-            ap (λ x. drop (count (c .args .self .now .width) (length (c .args .self .now .words .now)) * c .args .self .now .width) (putMid at (c .args .self .now .width) (c .args .self .now .words .now) x)) q ∙
-            behind (c .args .self .now .words .now) (c .args .words .now) (c .args .self .now .width) (c .args .slot) h (c .if-words-self .left);
-        lent = refl }
+    record {
+      value = e .0;
+      after =
+          ap (λ k. slotsOf (c .mark-self .result) (putMid at k (c .args .self .now .words .now) (c .copy-from-slice .last .self)) (c .args .self .now .width)) d ∙
+          ap (λ x. slotsOf (c .mark-self .result) (putMid at (c .args .self .now .width) (c .args .self .now .words .now) x) (c .args .self .now .width)) q ∙
+          written (c .args .self .now .marks) (c .mark-self .result) (c .args .self .now .words .now) (c .args .words .now) (c .args .self .now .width) (c .args .slot) h (c .if-words-self .left) l (c .mark-self .ensures .here) (c .mark-self .ensures .others) ∙
+          e .1;
+      width = refl;
+      tidy = λ t. t;
+      rest =
+          ap (λ m. drop (count (c .args .self .now .width) m * c .args .self .now .width) (putMid at ((at + c .args .self .now .width) - at) (c .args .self .now .words .now) (c .copy-from-slice .last .self))) (ap (λ k. length (putMid at k (c .args .self .now .words .now) (c .copy-from-slice .last .self))) d ∙ ap (λ x. length (putMid at (c .args .self .now .width) (c .args .self .now .words .now) x)) q ∙ l) ∙
+          ap (λ k. drop (count (c .args .self .now .width) (length (c .args .self .now .words .now)) * c .args .self .now .width) (putMid at k (c .args .self .now .words .now) (c .copy-from-slice .last .self))) d ∙
+          ap (λ x. drop (count (c .args .self .now .width) (length (c .args .self .now .words .now)) * c .args .self .now .width) (putMid at (c .args .self .now .width) (c .args .self .now .words .now) x)) q ∙
+          behind (c .args .self .now .words .now) (c .args .words .now) (c .args .self .now .width) (c .args .slot) h (c .if-words-self .left);
+      lent = refl;
+    }

@@ -1,0 +1,17 @@
+use Prim.Native.Nat.{_*_, _≤_}
+use mathlib.Core.Path.{_≡_}
+use lib.ListN.{drop, length}
+use Rattle.std.specs.Of.Vec.{vec-cap, vec-items, vec-len}
+use Rattle.source.specs.Scans.{first, inputs}
+use Rattle.rerun.specs.Runs.{at, told}
+use Rattle.rerun.proofs.replay_states.Given as given
+
+abbrev pub Inv-loop-scan : given.InvT-loop-scan
+Inv-loop-scan g l =
+    (l .place ≡ first (drop (l .-scan) (g .S·Source .scans (l .source))))
+    × (g .M·Machine .state (l .machine) ≡ at (g .M·Machine .next (l .entry .machine)) (g .M·Machine .state (l .entry .machine)) (inputs (g .S·Source .scans (l .source))) (l .-scan))
+    × (g .M·Machine .next (l .machine) ≡ g .M·Machine .next (l .entry .machine))
+    × (g .M·Machine .lawful (l .machine) ≡ g .M·Machine .lawful (l .entry .machine))
+    × (vec-items (l .states) ≡ told (g .M·Machine .next (l .entry .machine)) (g .M·Machine .state (l .entry .machine)) (inputs (g .S·Source .scans (l .source))) (l .-scan))
+    × (vec-len (l .states) ≡ l .-scan * g .M·Machine .wide)
+    × (l .total * g .M·Machine .wide ≤ vec-cap (l .states))
