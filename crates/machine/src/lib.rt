@@ -3,7 +3,6 @@ mod counter;
 
 pub use counter::Counter;
 pub use counter::CounterMachine;
-
 ghost use Prim.Native.Nat.{ℕ, _≤_, _%_, _^_};
 ghost use Rattle.machine.specs.Machines.{Words, read, saving, saved, loading, loaded};
 ghost use lib.ListN.{length};

@@ -27,7 +27,11 @@ fn scan_at<S: Source>(source: &S, place: Option<Place>) -> (u32, Option<Place>)
 }
 
 // One step by the scan at a place, and the place after it.
-fn advance<M: Machine, S: Source>(machine: &mut M, source: &S, place: Option<Place>) -> Option<Place>
+fn advance<M: Machine, S: Source>(
+    machine: &mut M,
+    source: &S,
+    place: Option<Place>,
+) -> Option<Place>
     ensures place { λ r. ⌜ r ≡ scanAt (S·Source .scans (now (source .entry))) place .1 ⌝ }
     ensures state { λ _. ⌜ M·Machine .state (now (machine .exit)) ≡ M·Machine .next (now (machine .entry)) (M·Machine .state (now (machine .entry))) (scanAt (S·Source .scans (now (source .entry))) place .0) ⌝ }
     ensures rule { λ _. ⌜ M·Machine .next (now (machine .exit)) ≡ M·Machine .next (now (machine .entry)) ⌝ }
@@ -74,7 +78,11 @@ fn tell<M: Machine>(machine: &M, states: &mut Vec<u32>)
 
 // The same run, and the words of x(1), x(2), .. x(total), one state after another. Room for all of them is got before
 // the first step: without it nothing is run.
-pub fn replay_states<M: Machine, S: Source>(heap: Global, machine: &mut M, source: &S) -> Result<Vec<u32>, Failure>
+pub fn replay_states<M: Machine, S: Source>(
+    heap: Global,
+    machine: &mut M,
+    source: &S,
+) -> Result<Vec<u32>, Failure>
     ensures states { λ r. ⌜ Cases r (λ v. vec-items v ≡ told (M·Machine .next (now (machine .entry))) (M·Machine .state (now (machine .entry))) (inputs (S·Source .scans (now (source .entry)))) (length (S·Source .scans (now (source .entry))))) (λ e. e ≡ NoMemory) ⌝ }
     ensures after { λ r. ⌜ Cases r (λ _. M·Machine .state (now (machine .exit)) ≡ at (M·Machine .next (now (machine .entry))) (M·Machine .state (now (machine .entry))) (inputs (S·Source .scans (now (source .entry)))) (length (S·Source .scans (now (source .entry))))) (λ _. now (machine .exit) ≡ now (machine .entry)) ⌝ }
     ensures rule { λ _. ⌜ M·Machine .next (now (machine .exit)) ≡ M·Machine .next (now (machine .entry)) ⌝ }

@@ -33,6 +33,7 @@ set-at cells i v k l h = ⊎-elim here other (cases-eq k i)
   where
     here : k ≡ i → bit (getD (set cells i (eqb v 1)) k false) ≡ cond (eqb k i) v (bit (getD cells k false))
     here e = rw (eq-eqb k i e, e, getD-set-same) (bit-test v h)
+
     other : (k ≡ i → ⊥) → bit (getD (set cells i (eqb v 1)) k false) ≡ cond (eqb k i) v (bit (getD cells k false))
     other ne = let n : k ≢ i = ne in rw (ne-eqb k i ne, getD-set-other) refl
 
@@ -69,10 +70,10 @@ pub step-packed : (rule : ℕ) (old mid new : List Bool) (input : ℕ) →
 step-packed rule old mid new input g s =
     pack-same _ _
     (λ c h.
-      let a = g (lower c) (mod-lt (c + 255) (omega arith)) in
-      let b = g c h in
-      let d = g (higher c) (mod-lt (c + 1) (omega arith)) in
-      s c h ∙ cc)
+    let a = g (lower c) (mod-lt (c + 255) (omega arith)) in
+    let b = g c h in
+    let d = g (higher c) (mod-lt (c + 1) (omega arith)) in
+    s c h ∙ cc)
 
 -- loaded words
 pub load-packed : (cells : List Bool) (words : List ℕ) → lawful words ≡ true →
@@ -95,6 +96,7 @@ filled cells i b g l before here k h = ⊎-elim same other (cases-eq k i)
   where
     same : k ≡ i → bit (getD (set cells i b) k false) ≡ g k
     same e = rw (e, getD-set-same) here
+
     other : (k ≡ i → ⊥) → bit (getD (set cells i b) k false) ≡ g k
     other ne = let n : k ≢ i = ne in rw getD-set-other (before k (omega arith))
 

@@ -3,6 +3,7 @@ ghost use Prim.Native.Nat.{ℕ, _*_, _<_, _≤_};
 ghost use native.Mathlib.Omega.{arith};
 ghost use Rattle.machine.specs.Machines.{Words};
 ghost use Rattle.row.specs.Cells.{bit, bits, cell, given, higher, lawful, lower, next, outcome, packed, placed, setting, stepped, wide};
+ghost use Rattle.row.specs.Examples.{Lone};
 ghost use Rattle.row.specs.Laws.{lawful-sized, next-lawful, next-read, packed-lawful};
 ghost use Rattle.std.specs.Results.{Cases};
 ghost use Rattle.terms.specs.declared.Refusal.the-variants.{OutOfLimits};
@@ -29,7 +30,10 @@ impl Row {
         if rule > 255 {
             return Err(Refusal::OutOfLimits);
         }
-        Ok(Row { rule, cells: [false; 256] })
+        Ok(Row {
+            rule,
+            cells: [false; 256],
+        })
     }
 
     // Sets a start cell.
@@ -126,6 +130,7 @@ pub impl Machine for Row as RowMachine {
         ensures rule { λ _. ⌜ next (now (self .exit) .rule) ≡ next (now (self .entry) .rule) ⌝ }
         ensures law { λ _. ⌜ lawful ≡ lawful ⌝ }
         ensures cells { λ _. ⌜ ((c : ℕ) → c < 256 → cell (packed (now (self .exit) .cells)) c ≡ stepped (now (self .entry) .rule) (packed (now (self .entry) .cells)) input c) ⌝ }
+        ensures lone { λ _. ⌜ Lone ⌝ }
     {
         self.write(input);
         let cells = advanced(self.rule, &self.cells);
@@ -137,7 +142,18 @@ pub impl Machine for Row as RowMachine {
             return Err(Refusal::WrongLength);
         }
         let cells = &self.cells;
-        buffer.copy_from_slice(&[word(cells, 0), word(cells, 1), word(cells, 2), word(cells, 3), word(cells, 4), word(cells, 5), word(cells, 6), word(cells, 7)]);
+        buffer.copy_from_slice(
+            &[
+                word(cells, 0),
+                word(cells, 1),
+                word(cells, 2),
+                word(cells, 3),
+                word(cells, 4),
+                word(cells, 5),
+                word(cells, 6),
+                word(cells, 7),
+            ],
+        );
         Ok(())
     }
 
@@ -149,5 +165,23 @@ pub impl Machine for Row as RowMachine {
             self.cells[c] = (words[c / 32] >> (c % 32)) % 2 == 1;
         }
         Ok(())
+    }
+}
+
+#[cfg(test)]
+mod tests {
+    use super::*;
+    use std::test::*;
+    use terms::RefusalDebug;
+
+    // Rule 90 on cell 0 alone gives cells 1 and 255.
+    #[test]
+    fn lone_cell() -> Result<(), Fail> {
+        let mut row = Row::new(90)?;
+        row.set_cell(0, 1)?;
+        row.step(0);
+        let mut words = [0; 8];
+        row.save(&mut words)?;
+        check_eq(words, [2, 0, 0, 0, 0, 0, 0, 0x8000_0000])
     }
 }

@@ -30,6 +30,7 @@ from-at i (suc n) p a b = ⊎-elim here (later (from-at (i + 1) n p)) (cases-eq 
   where
     here : i ≡ p → reading (from i (suc n)) p ≡ Some (wave p, first (from (p + 1) (i + suc n - (p + 1))))
     here e = let f : n ≡ i + suc n - (p + 1) = omega arith in rw (eq-eqb i p e) (cc)
+
     later : (i + 1 ≤ p → p < i + 1 + n → reading (from (i + 1) n) p ≡ Some (wave p, first (from (p + 1) (i + 1 + n - (p + 1))))) → (i ≡ p → ⊥) → reading (from i (suc n)) p ≡ Some (wave p, first (from (p + 1) (i + suc n - (p + 1))))
     later ih ne =
         let f : i + 1 + n - (p + 1) ≡ i + suc n - (p + 1) = omega arith in

@@ -3,7 +3,6 @@ mod signal;
 
 pub use signal::Signal;
 pub use signal::SignalSource;
-
 ghost use Prim.Native.Nat.{_≤_};
 ghost use Rattle.source.specs.Scans.{Sample, Rising, most, first, reading};
 ghost use lib.ListN.{length};

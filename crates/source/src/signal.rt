@@ -41,7 +41,11 @@ pub impl Source for Signal as SignalSource {
     }
 
     fn first(&self) -> Option<Place> {
-        if self.total == 0 { None } else { Some(Place(0)) }
+        if self.total == 0 {
+            None
+        } else {
+            Some(Place(0))
+        }
     }
 
     fn read(&self, place: Place) -> Option<(u32, Option<Place>)> {
@@ -51,6 +55,13 @@ pub impl Source for Signal as SignalSource {
         }
         let input = i.wrapping_mul(1_664_525).wrapping_add(1_013_904_223) >> 4;
         let next = i + 1;
-        Some((input, if next < self.total { Some(Place(next)) } else { None }))
+        Some((
+            input,
+            if next < self.total {
+                Some(Place(next))
+            } else {
+                None
+            },
+        ))
     }
 }

@@ -58,7 +58,7 @@ pub bare-drop : (p : List ℕ) → getD p 0 0 ≡ 48 → getD p 1 0 ≡ 120 → 
 bare-drop p a b =
     take-rest p 2
     ∙ sym (cond-true (eqb (getD p 0 0) 48 && eqb (getD p 1 0) 120) (drop 2 p) p
-        (and-from (eqb (getD p 0 0) 48) (eqb (getD p 1 0) 120) (eq-eqb (getD p 0 0) 48 a) (eq-eqb (getD p 1 0) 120 b)))
+    (and-from (eqb (getD p 0 0) 48) (eqb (getD p 1 0) 120) (eq-eqb (getD p 0 0) 48 a) (eq-eqb (getD p 1 0) 120 b)))
 
 -- one to eight digits are read, no other number of them
 abbrev worth : List ℕ → Option ℕ

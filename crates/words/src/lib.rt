@@ -66,7 +66,11 @@ fn number_of(bytes: &[u8]) -> Option<u32>
 fn without_prefix(piece: &[u8]) -> &[u8]
     ensures { λ r. ⌜ now r ≡ bare (now (piece .entry)) ⌝ }
 {
-    if piece.len() >= 2 && piece[0] == b'0' && piece[1] == b'x' { &piece[2..] } else { piece }
+    if piece.len() >= 2 && piece[0] == b'0' && piece[1] == b'x' {
+        &piece[2..]
+    } else {
+        piece
+    }
 }
 
 // The word that a piece of text writes.

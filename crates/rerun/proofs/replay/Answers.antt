@@ -32,4 +32,5 @@ returns g c =
       state = s;
       run = s ∙ ap (at next x (inputs ss)) (sym (inputs-length ss)) ∙ at-run next x (inputs ss);
       rule = c .loop-scan .inv .2;
-      law = c .loop-scan .inv .3 }
+      law = c .loop-scan .inv .3;
+    }

@@ -13,7 +13,7 @@ use Rattle.rerun.proofs.replay_states.Needs as need
 pub tell-requires : need.tell-requires
 tell-requires g c κs =
     room-more (c .loop-scan .-scan) (c .total-total .result) (g .M·Machine .wide) (vec-len (c .loop-scan .states)) (vec-cap (c .loop-scan .states))
-      (c .loop-scan-test .taken) (c .loop-scan .inv .5) (c .loop-scan .inv .6)
+    (c .loop-scan-test .taken) (c .loop-scan .inv .5) (c .loop-scan .inv .6)
 
 pub loop-scan-again : need.loop-scan-again
 loop-scan-again g c =
@@ -30,11 +30,12 @@ loop-scan-again g c =
     let after = on .1 in
     let now : g .M·Machine .state (c .advance-place .last .machine) ≡ at next x (inputs ss) (i + 1) = cc in
     let tells = told-more next x (inputs ss) i in
-    let items = c .tell .ensures .items in
-    ( c .advance-place .ensures .place ∙ on .0
-    , now
-    , c .advance-place .ensures .rule ∙ rule
-    , c .advance-place .ensures .law ∙ c .loop-scan .inv .3
-    , cc
-    , c .tell .ensures .len ∙ ap (λ (n : ℕ). n + w) (c .loop-scan .inv .5) ∙ length-more i w
-    , omega (arith, c .loop-scan .inv .6, c .tell .ensures .capacity) )
+    let items = c .tell .ensures .items in (
+      c .advance-place .ensures .place ∙ on .0,
+      now,
+      c .advance-place .ensures .rule ∙ rule,
+      c .advance-place .ensures .law ∙ c .loop-scan .inv .3,
+      cc,
+      c .tell .ensures .len ∙ ap (λ (n : ℕ). n + w) (c .loop-scan .inv .5) ∙ length-more i w,
+      omega (arith, c .loop-scan .inv .6, c .tell .ensures .capacity),
+    )

@@ -18,4 +18,5 @@ returns g c =
     let s : b ≡ x = saves w k room x b (c .width .ensures) h (c .save .ensures .after) in
     record {
       length = saves-length w k room x b (c .width .ensures) h l s;
-      state = saves-front w k room x b l s }
+      state = saves-front w k room x b l s;
+    }

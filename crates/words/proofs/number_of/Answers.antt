@@ -16,15 +16,18 @@ mul-number c = omega (arith, room (c .loop-byte .number) 0 (c .loop-byte .byte-i
 
 pub add-number : need.add-number
 add-number c =
-    omega (arith,
+    omega (
+      arith,
       room (c .loop-byte .number) (c .in-Some .value) (c .loop-byte .byte-index) (c .loop-byte .inv .1)
-      (digit-small (getD (c .args .bytes .now) (c .loop-byte .byte-index) 0) (c .in-Some .value) (sym (c .in-Some .ensures tt))) (omega arith))
+          (digit-small (getD (c .args .bytes .now) (c .loop-byte .byte-index) 0) (c .in-Some .value) (sym (c .in-Some .ensures tt))) (omega arith),
+    )
 
 pub loop-byte-again : need.loop-byte-again
-loop-byte-again c =
-    ( sym (digits-more (c .args .bytes .now) (c .loop-byte .byte-index) (c .loop-byte .number) (c .in-Some .value) (omega arith) (sym (c .in-Some .ensures tt)))
-      ∙ c .loop-byte .inv .0
-    , room-more (c .loop-byte .number) (c .in-Some .value) (c .loop-byte .byte-index) (c .loop-byte .inv .1) (digit-small (getD (c .args .bytes .now) (c .loop-byte .byte-index) 0) (c .in-Some .value) (sym (c .in-Some .ensures tt))) )
+loop-byte-again c = (
+  sym (digits-more (c .args .bytes .now) (c .loop-byte .byte-index) (c .loop-byte .number) (c .in-Some .value) (omega arith) (sym (c .in-Some .ensures tt)))
+      ∙ c .loop-byte .inv .0,
+  room-more (c .loop-byte .number) (c .in-Some .value) (c .loop-byte .byte-index) (c .loop-byte .inv .1) (digit-small (getD (c .args .bytes .now) (c .loop-byte .byte-index) 0) (c .in-Some .value) (sym (c .in-Some .ensures tt))),
+)
 
 pub returns : need.returns
 returns c =

@@ -6,6 +6,7 @@ use Rattle.row.proofs.Row.set_cell.Needs as need
 
 pub returns : need.returns
 returns c = record {
-    value = search needs;
-    after = set-packed (c .args .self .now .cells) (c .args .cell) (c .args .value) (c .args .self .now .ring) (omega arith) (omega arith);
-    rule = refl }
+  value = search needs;
+  after = set-packed (c .args .self .now .cells) (c .args .cell) (c .args .value) (c .args .self .now .ring) (omega arith) (omega arith);
+  rule = refl;
+}

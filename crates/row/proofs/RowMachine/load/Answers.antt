@@ -15,11 +15,12 @@ pub loop-c-holds : need.loop-c-holds
 loop-c-holds c = (refl, λ k h. absurd (omega arith), λ h j. absurd (omega arith))
 
 pub loop-c-again : need.loop-c-again
-loop-c-again c =
-    (c .loop-c .inv .0,
-    filled (c .loop-c .self .cells) (c .loop-c .c) _ (cell (c .args .words .now)) (omega (arith, c .loop-c .self .ring)) (c .loop-c .inv .1)
+loop-c-again c = (
+  c .loop-c .inv .0,
+  filled (c .loop-c .self .cells) (c .loop-c .c) _ (cell (c .args .words .now)) (omega (arith, c .loop-c .self .ring)) (c .loop-c .inv .1)
       (bit-test (cell (c .args .words .now) (c .loop-c .c)) (mod-lt _ (omega arith))),
-    λ h j. omega (arith, c .typed .words j))
+  λ h j. omega (arith, c .typed .words j),
+)
 
 pub returns : need.returns
 returns c =
@@ -29,4 +30,5 @@ returns c =
       value = loads (c .args .words .now) (c .if-words-ne-W .left) l;
       after = e ∙ loads-to (c .args .words .now) _ (c .if-words-ne-W .left) l;
       rule = ap next (c .loop-c .inv .0);
-      law = refl }
+      law = refl;
+    }
