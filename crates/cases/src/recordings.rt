@@ -8,7 +8,7 @@ fn check(rt: &LibcRuntime, what: &str, words: &[u32]) -> io::Result<()> {
     report(rt, what, reader.check())
 }
 
-pub fn faults(rt: &LibcRuntime) -> io::Result<()> {
+pub(crate) fn faults(rt: &LibcRuntime) -> io::Result<()> {
     check(rt, "the end alone", &[0x3000_0000])?;
     check(
         rt,
@@ -40,7 +40,7 @@ pub fn faults(rt: &LibcRuntime) -> io::Result<()> {
     check(rt, "a scan and no end", &[0x1000_0000])
 }
 
-pub fn lengths(rt: &LibcRuntime) -> io::Result<()> {
+pub(crate) fn lengths(rt: &LibcRuntime) -> io::Result<()> {
     let words = vec![in rt.alloc(); 0x8000_0000; 1_000_001]?;
     check(rt, "1,000,001 idle words", words.as_slice())?;
     check(

@@ -8,24 +8,29 @@ use session::Session;
 use source::Signal;
 use source::SignalSource;
 use std::io;
-use terms::Refusal;
 use viewer::Watch;
 
-fn made() -> Result<(Row, Signal), Refusal> {
-    Ok((Row::new(30)?, Signal::new(1)?))
-}
-
-pub fn widths(rt: &LibcRuntime) -> io::Result<()> {
-    let Ok((row, signal)) = made() else {
+pub(crate) fn widths(rt: &LibcRuntime) -> io::Result<()> {
+    let Ok(row) = Row::new(30) else {
+        return Ok(());
+    };
+    let Ok(signal) = Signal::new(1) else {
         return Ok(());
     };
     let mut words = [0u32; 16];
     let mut session = Session::new(row, signal, Copies::new(&mut words, 4));
-    report(rt, "a session over a store of width 4 opened", session.open(1))
+    report(
+        rt,
+        "a session over a store of width 4 opened",
+        session.open(1),
+    )
 }
 
-pub fn calls(rt: &LibcRuntime) -> io::Result<()> {
-    let Ok((row, signal)) = made() else {
+pub(crate) fn calls(rt: &LibcRuntime) -> io::Result<()> {
+    let Ok(row) = Row::new(30) else {
+        return Ok(());
+    };
+    let Ok(signal) = Signal::new(1) else {
         return Ok(());
     };
     let mut words = [0u32; 16];
@@ -37,8 +42,16 @@ pub fn calls(rt: &LibcRuntime) -> io::Result<()> {
     report(rt, "opened again", session.open(2))?;
     report(rt, "back at the first scan", session.back())?;
     report(rt, "word 8 looked at", session.look(8))?;
-    report(rt, "a seek in word 8 at the first scan", session.seek(Watch::Ones { word: 8, least: 1 }))?;
-    report(rt, "a seek in word 7 at the first scan", session.seek(Watch::Ones { word: 7, least: 1 }))?;
+    report(
+        rt,
+        "a seek in word 8 at the first scan",
+        session.seek(Watch::Ones { word: 8, least: 1 }),
+    )?;
+    report(
+        rt,
+        "a seek in word 7 at the first scan",
+        session.seek(Watch::Ones { word: 7, least: 1 }),
+    )?;
     report(rt, "one step ahead", session.ahead())?;
     report(rt, "a step past the last scan", session.ahead())
 }

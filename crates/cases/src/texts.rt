@@ -16,7 +16,7 @@ fn read(rt: &LibcRuntime, text: &str) -> io::Result<()> {
     }
 }
 
-pub fn faults(rt: &LibcRuntime) -> io::Result<()> {
+pub(crate) fn faults(rt: &LibcRuntime) -> io::Result<()> {
     read(rt, "")?;
     read(rt, " 0x0000000A  ffffFFFF ")?;
     read(rt, "10000000 30000g01")?;

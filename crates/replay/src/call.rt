@@ -32,11 +32,14 @@ fn asked_row(heap: Global, rule: String, recording: String, args: Args) -> Resul
     for cell in args {
         cells.push(number(cell)?)?;
     }
-    Ok(Call { kind: Kind::Row { rule, cells }, recording })
+    Ok(Call {
+        kind: Kind::Row { rule, cells },
+        recording,
+    })
 }
 
 // The words of a command line, the program's own name first.
-pub fn asked(heap: Global, mut args: Args) -> Result<Call, Trouble> {
+pub(crate) fn asked(heap: Global, mut args: Args) -> Result<Call, Trouble> {
     let _name = args.next();
     let Some(kind) = args.next() else {
         return Err(Trouble::Usage);
@@ -49,7 +52,10 @@ pub fn asked(heap: Global, mut args: Args) -> Result<Call, Trouble> {
     };
     match kind.as_str() {
         "row" => asked_row(heap, program, recording, args),
-        "tape" => Ok(Call { kind: Kind::Tape { table: program }, recording }),
+        "tape" => Ok(Call {
+            kind: Kind::Tape { table: program },
+            recording,
+        }),
         _ => Err(Trouble::NoKind(kind)),
     }
 }

@@ -50,7 +50,11 @@ fn made_tape(rt: &LibcRuntime, file: &str) -> Result<Tape, Trouble> {
 }
 
 // The scans and marks of a recording, with the machine's words after each scan.
-fn print_run<M: Machine + Drop>(rt: &LibcRuntime, mut machine: M, reader: &mut Reader) -> Result<(), Trouble> {
+fn print_run<M: Machine + Drop>(
+    rt: &LibcRuntime,
+    mut machine: M,
+    reader: &mut Reader,
+) -> Result<(), Trouble> {
     let states = replay_states(rt.alloc(), &mut machine, reader)?;
     print_total(rt, reader)?;
     print_items(rt, reader, states.as_slice(), M::width())?;

@@ -24,7 +24,7 @@ impl fmt::Display for Words<'_> as WordsDisplay {
 }
 
 // The numbers of scans and marks; the reader goes back to its first item.
-pub fn print_total(rt: &LibcRuntime, reader: &mut Reader) -> io::Result<()> {
+pub(crate) fn print_total(rt: &LibcRuntime, reader: &mut Reader) -> io::Result<()> {
     let scans = reader.total();
     let mut marks = 0u32;
     while let Some(item) = reader.next_item() {
@@ -37,7 +37,12 @@ pub fn print_total(rt: &LibcRuntime, reader: &mut Reader) -> io::Result<()> {
 }
 
 // A line for each scan, with the state after it, and for each mark with its more words.
-pub fn print_items(rt: &LibcRuntime, reader: &mut Reader, states: &[u32], width: usize) -> io::Result<()> {
+pub(crate) fn print_items(
+    rt: &LibcRuntime,
+    reader: &mut Reader,
+    states: &[u32],
+    width: usize,
+) -> io::Result<()> {
     let mut rows = states.chunks(width.max(1));
     let mut scan = 0u32;
     while let Some(item) = reader.next_item() {

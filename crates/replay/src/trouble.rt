@@ -2,10 +2,10 @@
 use std::alloc::Refused;
 use std::fmt;
 use std::io;
+use tabletext::BadLine;
 use terms::Failure;
 use terms::Place;
 use terms::Refusal;
-use tabletext::BadLine;
 use terms::RefusalDisplay;
 use words::Fault;
 
@@ -47,15 +47,24 @@ fn show_line<W: fmt::Write>(bad: BadLine, f: &mut fmt::Formatter<W>) -> fmt::Res
     let line = bad.line;
     match bad.refusal {
         Some(refusal) => write!(f, "line {line} of the table is refused: {refusal}"),
-        None => write!(f, "line {line} of the table says nothing that a table can say"),
+        None => write!(
+            f,
+            "line {line} of the table says nothing that a table can say"
+        ),
     }
 }
 
 pub impl fmt::Display for Trouble as TroubleDisplay {
     fn fmt<W: fmt::Write>(&self, f: &mut fmt::Formatter<W>) -> fmt::Result {
         match self {
-            Trouble::Usage => write!(f, "usage: replay row RULE RECORDING [CELL ..], or replay tape TABLE RECORDING"),
-            Trouble::NoKind(kind) => write!(f, "there is no machine of the kind {kind}, only row and tape"),
+            Trouble::Usage => write!(
+                f,
+                "usage: replay row RULE RECORDING [CELL ..], or replay tape TABLE RECORDING"
+            ),
+            Trouble::NoKind(kind) => write!(
+                f,
+                "there is no machine of the kind {kind}, only row and tape"
+            ),
             Trouble::NoNumber(text) => write!(f, "{text} is no number"),
             Trouble::NoFile(e) => write!(f, "the recording cannot be read: {e}"),
             Trouble::NoTable(e) => write!(f, "the table cannot be read: {e}"),

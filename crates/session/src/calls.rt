@@ -170,7 +170,11 @@ fn word_of(watch: Watch) -> u32
     ensures { λ r. ⌜ r ≡ watched watch ⌝ }
 {
     match watch {
-        Watch::Equal { word, mask: _, value: _ } => word,
+        Watch::Equal {
+            word,
+            mask: _,
+            value: _,
+        } => word,
         Watch::Ones { word, least: _ } => word,
     }
 }

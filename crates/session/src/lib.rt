@@ -5,7 +5,6 @@ mod table;
 
 pub use runs::Outcome;
 pub use runs::run;
-
 ghost use Rattle.machine.specs.Machines.{counted};
 ghost use Rattle.session.specs.Sessions.{closed, frame, frameOf, here};
 ghost use Rattle.store.specs.Slots.{got};
@@ -47,7 +46,15 @@ impl<M: Machine, S: Source, T: Store> Session<M, S, T> {
         ensures frame { λ r. ⌜ frame M·Machine S·Source T·Store r ≡ frameOf M·Machine S·Source T·Store machine source store ⌝ }
         ensures here { λ r. ⌜ here M·Machine S·Source T·Store r ≡ closed M·Machine S·Source T·Store machine source store ⌝ }
     {
-        Session { machine: Counter::new(machine), source, store, slots: 0, scan: Scan(0), place: None, table: Table::new() }
+        Session {
+            machine: Counter::new(machine),
+            source,
+            store,
+            slots: 0,
+            scan: Scan(0),
+            place: None,
+            table: Table::new(),
+        }
     }
 
     // One step, where there is a scan to read.
@@ -83,7 +90,10 @@ impl<M: Machine, S: Source, T: Store> Session<M, S, T> {
     {
         let words = picture(&self.machine);
         let _ = self.store.put(self.table.len(), &words[0..M::width()]);
-        self.table.push(Held { scan: self.scan, place: self.place });
+        self.table.push(Held {
+            scan: self.scan,
+            place: self.place,
+        });
     }
 
     // The highest held scan is freed.
@@ -217,7 +227,10 @@ impl<M: Machine, S: Source, T: Store> Session<M, S, T> {
         self.scan = Scan(0);
         self.place = self.source.first();
         self.table = Table::new();
-        self.table.push(Held { scan: self.scan, place: self.place });
+        self.table.push(Held {
+            scan: self.scan,
+            place: self.place,
+        });
     }
 }
 

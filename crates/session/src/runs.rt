@@ -23,20 +23,32 @@ pub struct Outcome<M, S, T> {
 }
 
 // Makes a session from a machine, a source and a store, and runs the calls, one by one.
-pub fn run<M: Machine, S: Source, T: Store>(machine: M, source: S, store: T, calls: &[Call], heap: Global) -> Outcome<M, S, T>
+pub fn run<M: Machine, S: Source, T: Store>(
+    machine: M,
+    source: S,
+    store: T,
+    calls: &[Call],
+    heap: Global,
+) -> Outcome<M, S, T>
     ensures promise { λ r. ⌜ Cases (r .answers)
         (λ v. Promise (given M·Machine S·Source T·Store machine source store) (T·Store .slots store) (now (calls .entry)) (vec-items v)
-            (here M·Machine S·Source T·Store (r .session) .state) (here M·Machine S·Source T·Store (r .session) .held)
-            (here M·Machine S·Source T·Store (r .session) .count) (here M·Machine S·Source T·Store (r .session) .slots))
+        (here M·Machine S·Source T·Store (r .session) .state) (here M·Machine S·Source T·Store (r .session) .held)
+        (here M·Machine S·Source T·Store (r .session) .count) (here M·Machine S·Source T·Store (r .session) .slots))
         (λ _. here M·Machine S·Source T·Store (r .session) ≡ closed M·Machine S·Source T·Store machine source store) ⌝ }
     ensures frame { λ r. ⌜ frame M·Machine S·Source T·Store (r .session) ≡ frameOf M·Machine S·Source T·Store machine source store ⌝ }
 {
     let mut session = Session::new(machine, source, store);
     let Ok(mut answers) = Vec::with_capacity(heap, calls.len()) else {
-        return Outcome { session, answers: Err(AllocError) };
+        return Outcome {
+            session,
+            answers: Err(AllocError),
+        };
     };
     for call in calls {
         answers.push_reserved(session.call(*call));
     }
-    Outcome { session, answers: Ok(answers) }
+    Outcome {
+        session,
+        answers: Ok(answers),
+    }
 }

@@ -15,5 +15,5 @@ use Rattle.viewer.proofs.Keeping.{keeps}
 pub promise-kept : (f : Frame) (h : Now) → Fair f (h .state) → h .room ≡ 0 → h .scan ≡ 0 → h .held ≡ [] → h .count ≡ 0 →
     (calls : List Call) →
     Promise (givenOf f (h .state) (length (h .slots))) (h .slots) calls (said f h calls)
-      (ran f h calls .state) (ran f h calls .held) (ran f h calls .count) (ran f h calls .slots)
+    (ran f h calls .state) (ran f h calls .held) (ran f h calls .count) (ran f h calls .slots)
 promise-kept = keeps steps-on drops-one goes-back

@@ -53,8 +53,14 @@ record-of n place = record { scan = record { 0 = n }; place = place }
 -- a step by an input, to the next place
 abbrev pub entered : Frame → ℕ → Option Place → Now → Now
 entered f input place h = record {
-    state = f .next (h .state) input; count = counted (h .count); slots = h .slots; room = h .room;
-    scan = after (h .scan); place = place; held = h .held }
+  state = f .next (h .state) input;
+  count = counted (h .count);
+  slots = h .slots;
+  room = h .room;
+  scan = after (h .scan);
+  place = place;
+  held = h .held;
+}
 
 -- one step, where there is a scan to read
 abbrev pub readIn : Frame → Now → Option (ℕ × Option Place) → Now
@@ -76,16 +82,26 @@ forward f (suc k) h = forward f k (stepped f h)
 -- a snapshot of the present state goes into the slot after the held ones, of which there are at most 32
 abbrev pub snapped : Frame → Now → Now
 snapped f h = record {
-    state = h .state; count = h .count; slots = puts (f .width) (h .slots) (length (h .held)) (h .state); room = h .room;
-    scan = h .scan; place = h .place;
-    held = cond (ltb (length (h .held)) 32) (h .held ++ (record-of (h .scan) (h .place) ∷ [])) (h .held) }
+  state = h .state;
+  count = h .count;
+  slots = puts (f .width) (h .slots) (length (h .held)) (h .state);
+  room = h .room;
+  scan = h .scan;
+  place = h .place;
+  held = cond (ltb (length (h .held)) 32) (h .held ++ (record-of (h .scan) (h .place) ∷ [])) (h .held);
+}
 
 -- the highest held scan is freed
 abbrev pub dropped : Now → Now
 dropped h = record {
-    state = h .state; count = h .count;
-    slots = cond (eqb (length (h .held)) 0) (h .slots) (frees (h .slots) (length (h .held) - 1)); room = h .room;
-    scan = h .scan; place = h .place; held = take (length (h .held) - 1) (h .held) }
+  state = h .state;
+  count = h .count;
+  slots = cond (eqb (length (h .held)) 0) (h .slots) (frees (h .slots) (length (h .held) - 1));
+  room = h .room;
+  scan = h .scan;
+  place = h .place;
+  held = take (length (h .held) - 1) (h .held);
+}
 
 -- the highest held record
 abbrev pub top : List Held → Option Held
@@ -110,8 +126,14 @@ released n h = releaseIf n h (top (h .held))
 abbrev pub restoreFrom : Frame → Now → Option Held → Now
 restoreFrom f h None = h
 restoreFrom f h (Some r) = record {
-    state = loaded (f .wide) (f .lawful) (got (f .width) (h .slots) (length (h .held) - 1) (replicate (f .wide) 0)) (h .state);
-    count = h .count; slots = h .slots; room = h .room; scan = r .scan .0; place = r .place; held = h .held }
+  state = loaded (f .wide) (f .lawful) (got (f .width) (h .slots) (length (h .held) - 1) (replicate (f .wide) 0)) (h .state);
+  count = h .count;
+  slots = h .slots;
+  room = h .room;
+  scan = r .scan .0;
+  place = r .place;
+  held = h .held;
+}
 
 abbrev pub restored : Frame → Now → Now
 restored f h = restoreFrom f h (top (h .held))
@@ -154,7 +176,14 @@ shed (suc k) h = shed k (dropped h)
 -- the count is set to 0
 abbrev pub recounted : Now → Now
 recounted h = record {
-    state = h .state; count = 0; slots = h .slots; room = h .room; scan = h .scan; place = h .place; held = h .held }
+  state = h .state;
+  count = 0;
+  slots = h .slots;
+  room = h .room;
+  scan = h .scan;
+  place = h .place;
+  held = h .held;
+}
 
 -- k slots from slot j on are emptied
 unfoldable pub emptied : ℕ → ℕ → List Slot → List Slot
@@ -164,8 +193,14 @@ emptied (suc k) j slots = emptied k (suc j) (frees slots j)
 -- an open with s slots
 abbrev pub opened : Frame → ℕ → Now → Now
 opened f s h = record {
-    state = h .state; count = 0; slots = puts (f .width) (emptied (s - 1) 1 (h .slots)) 0 (h .state); room = s;
-    scan = 0; place = first (f .scans); held = record-of 0 (first (f .scans)) ∷ [] }
+  state = h .state;
+  count = 0;
+  slots = puts (f .width) (emptied (s - 1) 1 (h .slots)) 0 (h .state);
+  room = s;
+  scan = 0;
+  place = first (f .scans);
+  held = record-of 0 (first (f .scans)) ∷ [];
+}
 
 -- why each call is refused, in the order in which it is tried
 abbrev pub stops : Frame → Now → Call → Option Refusal

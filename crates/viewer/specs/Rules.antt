@@ -36,10 +36,11 @@ onward acts (Some w) = Some (record { from = w .from; acts = w .acts ++ acts })
 -- k backs from scan n
 abbrev pub backs : ℕ → ℕ → Book → Book
 backs k n b = record {
-    slots = b .slots;
-    held = walked (b .slots) k n (b .held);
-    count = min cap (b .count + steps (walk (b .slots) k n (b .held)));
-    since = onward (walk (b .slots) k n (b .held)) (b .since) }
+  slots = b .slots;
+  held = walked (b .slots) k n (b .held);
+  count = min cap (b .count + steps (walk (b .slots) k n (b .held)));
+  since = onward (walk (b .slots) k n (b .held)) (b .since);
+}
 
 -- the book after an accepted call that went from scan n to scan k
 abbrev pub booked : ℕ → ℕ → Call → Book → Book

@@ -2,7 +2,8 @@
 use std::error::AnyError;
 use viewer::Watch;
 
-const USAGE: &str = "usage: walk row RULE CELL|none | tape TABLE, then signal N | recording FILE, then copies|pages|pair SLOTS, then nothing | equal WORD MASK VALUE | ones WORD N";
+const USAGE: &str =
+    "usage: walk row RULE CELL|none | tape TABLE, then signal N | recording FILE, then copies|pages|pair SLOTS, then nothing | equal WORD MASK VALUE | ones WORD N";
 
 // The machine to run: a row with at most one start cell, or a tape by its table's file.
 #[derive(Clone, Copy)]
@@ -64,7 +65,12 @@ fn kind_of<'a>(args: &'a [String]) -> Result<(Kind<'a>, usize), AnyError> {
             };
             Ok((Kind::Row { rule, cell }, 4))
         }
-        "tape" => Ok((Kind::Tape { table: word_at(args, 2)? }, 3)),
+        "tape" => Ok((
+            Kind::Tape {
+                table: word_at(args, 2)?,
+            },
+            3,
+        )),
         _ => Err(USAGE.into()),
     }
 }
@@ -93,19 +99,32 @@ fn watch_of(args: &[String], at: usize) -> Result<Option<Watch>, AnyError> {
     let word = number_at(args, at.saturating_add(1))?;
     let second = number_at(args, at.saturating_add(2))?;
     match word_at(args, at)? {
-        "equal" => Ok(Some(Watch::Equal { word, mask: second, value: number_at(args, at.saturating_add(3))? })),
-        "ones" => Ok(Some(Watch::Ones { word, least: second })),
+        "equal" => Ok(Some(Watch::Equal {
+            word,
+            mask: second,
+            value: number_at(args, at.saturating_add(3))?,
+        })),
+        "ones" => Ok(Some(Watch::Ones {
+            word,
+            least: second,
+        })),
         _ => Err(USAGE.into()),
     }
 }
 
 // The words of a command line, the program's own name first.
-pub fn read_request<'a>(args: &'a [String]) -> Result<Request<'a>, AnyError> {
+pub(crate) fn read_request<'a>(args: &'a [String]) -> Result<Request<'a>, AnyError> {
     let (kind, at) = kind_of(args)?;
     let feed = feed_of(args, at)?;
     let at = at.saturating_add(2);
     let keep = keep_of(word_at(args, at)?)?;
     let slots = number_at(args, at.saturating_add(1))?;
     let watch = watch_of(args, at.saturating_add(2))?;
-    Ok(Request { kind, feed, keep, slots, watch })
+    Ok(Request {
+        kind,
+        feed,
+        keep,
+        slots,
+        watch,
+    })
 }

@@ -100,7 +100,12 @@ fn walk_store<M: Machine + Drop, S: Source + Drop>(
     }
 }
 
-fn walk_recording<M: Machine + Drop>(rt: &LibcRuntime, machine: M, file: &str, ask: &Request<'_>) -> Result<(), AnyError> {
+fn walk_recording<M: Machine + Drop>(
+    rt: &LibcRuntime,
+    machine: M,
+    file: &str,
+    ask: &Request<'_>,
+) -> Result<(), AnyError> {
     let text = fs::read(rt, file)?;
     let Ok(words) = read_words(rt.alloc(), text.as_slice()) else {
         return Err("the recording is no list of hexadecimal words".into());
@@ -112,7 +117,11 @@ fn walk_recording<M: Machine + Drop>(rt: &LibcRuntime, machine: M, file: &str, a
     walk_store(rt, machine, reader, ask)
 }
 
-fn walk_source<M: Machine + Drop>(rt: &LibcRuntime, machine: M, ask: &Request<'_>) -> Result<(), AnyError> {
+fn walk_source<M: Machine + Drop>(
+    rt: &LibcRuntime,
+    machine: M,
+    ask: &Request<'_>,
+) -> Result<(), AnyError> {
     match ask.feed {
         Feed::Signal(total) => match Signal::new(total) {
             Ok(signal) => walk_store(rt, machine, signal, ask),
@@ -130,7 +139,7 @@ fn made_row(rule: u32, cell: Option<u32>) -> Result<Row, Refusal> {
     Ok(row)
 }
 
-pub fn walk_machine(rt: &LibcRuntime, ask: &Request<'_>) -> Result<(), AnyError> {
+pub(crate) fn walk_machine(rt: &LibcRuntime, ask: &Request<'_>) -> Result<(), AnyError> {
     match ask.kind {
         Kind::Row { rule, cell } => match made_row(rule, cell) {
             Ok(row) => walk_source(rt, row, ask),

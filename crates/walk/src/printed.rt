@@ -11,7 +11,12 @@ use viewer::Watch;
 
 // Open, run to the end, turn, one back and a look; then backs down to the first scan, or seeks with a look after each
 // and one that never holds; the count, and one back too many.
-pub fn calls_of(heap: Global, total: u32, slots: u32, watch: Option<Watch>) -> Result<Vec<Call>, AllocError> {
+pub(crate) fn calls_of(
+    heap: Global,
+    total: u32,
+    slots: u32,
+    watch: Option<Watch>,
+) -> Result<Vec<Call>, AllocError> {
     let mut calls = Vec::new(heap);
     calls.push(Call::Open(slots))?;
     for _ in 0..total {
@@ -55,7 +60,13 @@ fn print_count(rt: &impl Print, steps: u64, total: u32, slots: u32) -> io::Resul
     }
 }
 
-fn print_answer(rt: &impl Print, answer: Answer, times: u32, total: u32, slots: u32) -> io::Result<()> {
+fn print_answer(
+    rt: &impl Print,
+    answer: Answer,
+    times: u32,
+    total: u32,
+    slots: u32,
+) -> io::Result<()> {
     match answer {
         Answer::Total(n) => println!(rt, "open {n}"),
         Answer::Reached(Scan(n)) => println!(rt, "ahead {times}: at {n}"),
@@ -70,7 +81,12 @@ fn print_answer(rt: &impl Print, answer: Answer, times: u32, total: u32, slots: 
 }
 
 // A line for each answer; steps in one direction share a line.
-pub fn print_answers(rt: &impl Print, answers: &[Answer], total: u32, slots: u32) -> io::Result<()> {
+pub(crate) fn print_answers(
+    rt: &impl Print,
+    answers: &[Answer],
+    total: u32,
+    slots: u32,
+) -> io::Result<()> {
     let mut times = 0u32;
     for (i, answer) in answers.iter().enumerate() {
         times = times.saturating_add(1);

@@ -8,5 +8,16 @@ pub fn worked_counts() -> [Option<u64>; 10]
     ensures value { λ r. ⌜ r ≡ tenCounts ⌝ }
     ensures examples { λ _. ⌜ Examples ⌝ }
 {
-    [count(0, 3), count(1, 1), count(2, 1), count(5, 2), count(6, 2), count(7, 2), count(10, 3), count(11, 3), count(4, 4), count(20, 1)]
+    [
+        count(0, 3),
+        count(1, 1),
+        count(2, 1),
+        count(5, 2),
+        count(6, 2),
+        count(7, 2),
+        count(10, 3),
+        count(11, 3),
+        count(4, 4),
+        count(20, 1),
+    ]
 }

@@ -17,6 +17,7 @@ returns-then-width-le32 g c =
     record {
       length = same-len-mid 0 _ zeros (c .get .last .buffer) (c .get .kept .buffer);
       front = λ h. front-is w (c .get .last .buffer) _ k ∙ c .get .ensures .after
-        ∙ ap (λ (b : List ℕ). got (g .T·Store .wide (c .args .store .now)) (g .T·Store .slots (c .args .store .now)) (c .args .slot) b) (mid-zeros 32 w l);
+          ∙ ap (λ (b : List ℕ). got (g .T·Store .wide (c .args .store .now)) (g .T·Store .slots (c .args .store .now)) (c .args .slot) b) (mid-zeros 32 w l);
       same = c .get .ensures .same;
-      width = c .get .ensures .width }
+      width = c .get .ensures .width;
+    }

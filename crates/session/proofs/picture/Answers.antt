@@ -20,4 +20,5 @@ returns g c =
     let q : length (c .save .last .buffer) ≡ w = ap length p ∙ s ∙ sym e in
     record {
       length = same-len-mid 0 _ zeros (c .save .last .buffer) (q ∙ sym (mid-length w zeros l));
-      front = front-is (g .M·Machine .wide) (c .save .last .buffer) _ (ap length p ∙ s) ∙ p }
+      front = front-is (g .M·Machine .wide) (c .save .last .buffer) _ (ap length p ∙ s) ∙ p;
+    }

@@ -16,8 +16,14 @@ impl Table {
     pub(crate) fn new() -> Table
         ensures { λ r. ⌜ records r ≡ [] ⌝ }
     {
-        let none = Held { scan: Scan(0), place: None };
-        Table { records: [none; 32], len: 0 }
+        let none = Held {
+            scan: Scan(0),
+            place: None,
+        };
+        Table {
+            records: [none; 32],
+            len: 0,
+        }
     }
 
     // How many scans are held.

@@ -9,6 +9,6 @@ abbrev pub Inv-loop : given.InvT-loop
 Inv-loop g l =
     (frame (g .M·Machine) (g .S·Source) (g .T·Store) (l .self) ≡ frame (g .M·Machine) (g .S·Source) (g .T·Store) (l .entry .self))
     × (sought (frame (g .M·Machine) (g .S·Source) (g .T·Store) (l .entry .self)) (l .watch) (l .backs - l .counter) (here (g .M·Machine) (g .S·Source) (g .T·Store) (l .self))
-       ≡ sought (frame (g .M·Machine) (g .S·Source) (g .T·Store) (l .entry .self)) (l .watch) (l .backs) (here (g .M·Machine) (g .S·Source) (g .T·Store) (l .entry .self)))
+    ≡ sought (frame (g .M·Machine) (g .S·Source) (g .T·Store) (l .entry .self)) (l .watch) (l .backs) (here (g .M·Machine) (g .S·Source) (g .T·Store) (l .entry .self)))
     × (finding (frame (g .M·Machine) (g .S·Source) (g .T·Store) (l .entry .self)) (l .watch) (l .backs - l .counter) (here (g .M·Machine) (g .S·Source) (g .T·Store) (l .self))
-       ≡ finding (frame (g .M·Machine) (g .S·Source) (g .T·Store) (l .entry .self)) (l .watch) (l .backs) (here (g .M·Machine) (g .S·Source) (g .T·Store) (l .entry .self)))
+    ≡ finding (frame (g .M·Machine) (g .S·Source) (g .T·Store) (l .entry .self)) (l .watch) (l .backs) (here (g .M·Machine) (g .S·Source) (g .T·Store) (l .entry .self)))

@@ -16,9 +16,10 @@ loop-again g c =
     let f : Frame = frame (g .M·Machine) (g .S·Source) (g .T·Store) (c .args .self .now) in
     let h : Now = here (g .M·Machine) (g .S·Source) (g .T·Store) (c .loop .self) in
     let e = c .loop .inv .0 in
-    let a : here (g .M·Machine) (g .S·Source) (g .T·Store) (c .advance .last .self) ≡ stepped f h = c .advance .ensures .here ∙ ap (λ (x : Frame). stepped x h) e in
-    (c .advance .ensures .frame ∙ e,
-    ap (λ (x : Now). forward f (c .args .steps - (c .loop .counter + 1)) x) a ∙ forward-more f (c .args .steps) (c .loop .counter) h (c .loop-test .taken) ∙ c .loop .inv .1)
+    let a : here (g .M·Machine) (g .S·Source) (g .T·Store) (c .advance .last .self) ≡ stepped f h = c .advance .ensures .here ∙ ap (λ (x : Frame). stepped x h) e in (
+      c .advance .ensures .frame ∙ e,
+      ap (λ (x : Now). forward f (c .args .steps - (c .loop .counter + 1)) x) a ∙ forward-more f (c .args .steps) (c .loop .counter) h (c .loop-test .taken) ∙ c .loop .inv .1,
+    )
 
 pub returns : need.returns
 returns g c =

@@ -9,4 +9,4 @@ abbrev pub Inv-loop : given.InvT-loop
 Inv-loop g l =
     (frame (g .M·Machine) (g .S·Source) (g .T·Store) (l .self) ≡ frame (g .M·Machine) (g .S·Source) (g .T·Store) (l .entry .self))
     × (forward (frame (g .M·Machine) (g .S·Source) (g .T·Store) (l .entry .self)) (l .steps - l .counter) (here (g .M·Machine) (g .S·Source) (g .T·Store) (l .self))
-       ≡ forward (frame (g .M·Machine) (g .S·Source) (g .T·Store) (l .entry .self)) (l .steps) (here (g .M·Machine) (g .S·Source) (g .T·Store) (l .entry .self)))
+    ≡ forward (frame (g .M·Machine) (g .S·Source) (g .T·Store) (l .entry .self)) (l .steps) (here (g .M·Machine) (g .S·Source) (g .T·Store) (l .entry .self)))

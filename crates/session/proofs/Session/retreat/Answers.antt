@@ -6,7 +6,8 @@ use Rattle.session.proofs.Session.retreat.Needs as need
 
 pub returns : need.returns
 returns g c = record {
-    frame = c .climb .ensures .frame ∙ c .restore .ensures .frame ∙ c .release .ensures .frame;
-    here = back-whole _ _ _ _ _ _ _ (c .saturating-sub-below .result) (c .saturating-sub-free .result) (c .saturating-sub .result)
+  frame = c .climb .ensures .frame ∙ c .restore .ensures .frame ∙ c .release .ensures .frame;
+  here = back-whole _ _ _ _ _ _ _ (c .saturating-sub-below .result) (c .saturating-sub-free .result) (c .saturating-sub .result)
       (c .release .ensures .frame) (c .restore .ensures .frame) (c .release .ensures .here) (c .restore .ensures .here)
-      (c .saturating-sub-below .ensures ∙ ap (λ (n : ℕ). n - 1) (c .len .ensures)) (c .saturating-sub-free .ensures) (c .saturating-sub .ensures) (c .climb .ensures .here) }
+      (c .saturating-sub-below .ensures ∙ ap (λ (n : ℕ). n - 1) (c .len .ensures)) (c .saturating-sub-free .ensures) (c .saturating-sub .ensures) (c .climb .ensures .here);
+}

@@ -12,12 +12,14 @@ loop-holds g c =
     (refl, ap (λ (k : ℕ). shed k (here (g .M·Machine) (g .S·Source) (g .T·Store) (c .args .self .now))) e)
 
 pub loop-again : need.loop-again
-loop-again g c =
-    (c .drop-last .ensures .frame ∙ c .loop .inv .0,
-    ap (λ (x : Now). shed (c .args .many - (c .loop .counter + 1)) x) (c .drop-last .ensures .here)
-    ∙ shed-more (c .args .many) (c .loop .counter) (here (g .M·Machine) (g .S·Source) (g .T·Store) (c .loop .self)) (c .loop-test .taken) ∙ c .loop .inv .1)
+loop-again g c = (
+  c .drop-last .ensures .frame ∙ c .loop .inv .0,
+  ap (λ (x : Now). shed (c .args .many - (c .loop .counter + 1)) x) (c .drop-last .ensures .here)
+      ∙ shed-more (c .args .many) (c .loop .counter) (here (g .M·Machine) (g .S·Source) (g .T·Store) (c .loop .self)) (c .loop-test .taken) ∙ c .loop .inv .1,
+)
 
 pub returns : need.returns
 returns g c = record {
-    frame = c .loop .inv .0;
-    here = sym (shed-none (c .args .many) (c .loop .counter) (here (g .M·Machine) (g .S·Source) (g .T·Store) (c .loop .self)) (c .loop-test .left)) ∙ c .loop .inv .1 }
+  frame = c .loop .inv .0;
+  here = sym (shed-none (c .args .many) (c .loop .counter) (here (g .M·Machine) (g .S·Source) (g .T·Store) (c .loop .self)) (c .loop-test .left)) ∙ c .loop .inv .1;
+}

@@ -12,8 +12,8 @@ abbrev pub Inv-loop-call : given.InvT-loop-call
 Inv-loop-call g l =
     (frame (g .M·Machine) (g .S·Source) (g .T·Store) (l .session) ≡ frame (g .M·Machine) (g .S·Source) (g .T·Store) (l .entry .session))
     × (ran (frame (g .M·Machine) (g .S·Source) (g .T·Store) (l .entry .session)) (here (g .M·Machine) (g .S·Source) (g .T·Store) (l .session)) (drop (l .call-index) (l .calls))
-       ≡ ran (frame (g .M·Machine) (g .S·Source) (g .T·Store) (l .entry .session)) (here (g .M·Machine) (g .S·Source) (g .T·Store) (l .entry .session)) (l .calls))
+    ≡ ran (frame (g .M·Machine) (g .S·Source) (g .T·Store) (l .entry .session)) (here (g .M·Machine) (g .S·Source) (g .T·Store) (l .entry .session)) (l .calls))
     × (vec-items (l .answers) ++ said (frame (g .M·Machine) (g .S·Source) (g .T·Store) (l .entry .session)) (here (g .M·Machine) (g .S·Source) (g .T·Store) (l .session)) (drop (l .call-index) (l .calls))
-       ≡ said (frame (g .M·Machine) (g .S·Source) (g .T·Store) (l .entry .session)) (here (g .M·Machine) (g .S·Source) (g .T·Store) (l .entry .session)) (l .calls))
+    ≡ said (frame (g .M·Machine) (g .S·Source) (g .T·Store) (l .entry .session)) (here (g .M·Machine) (g .S·Source) (g .T·Store) (l .entry .session)) (l .calls))
     × (vec-len (l .answers) ≡ l .call-index)
     × (length (l .calls) ≤ vec-cap (l .answers))
