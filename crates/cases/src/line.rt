@@ -16,7 +16,11 @@ impl fmt::Display for Outcome as OutcomeDisplay {
     }
 }
 
-pub(crate) fn report<T: Drop>(rt: &LibcRuntime, what: &str, result: Result<T, Refusal>) -> io::Result<()> {
+pub(crate) fn report<T: Drop>(
+    rt: &LibcRuntime,
+    what: &str,
+    result: Result<T, Refusal>,
+) -> io::Result<()> {
     let outcome = match result {
         Ok(_) => Outcome(None),
         Err(refusal) => Outcome(Some(refusal)),
