@@ -1,4 +1,6 @@
 // Machines of the literature, run until they rest: busy beavers from the middle of an empty tape, and a binary counter.
+#![tactic(auto)]
+
 use machine::{Counter, Machine};
 use std::io;
 use tabletext::read_tape;

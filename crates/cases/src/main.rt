@@ -1,4 +1,6 @@
 // cases: the outcome of every refusal, a line for each. Every layer has a section, one function.
+#![tactic(auto)]
+
 mod line;
 mod recordings;
 mod rows;

@@ -1,5 +1,7 @@
 // counts L S: the steps of a walk back over L scans with S slots, and the splits of its first way up.
 // counts: a table for few scans and slots, and ten counts worked out.
+#![tactic(auto)]
+
 use schedule::{count, split};
 use std::{env, io};
 

@@ -1,4 +1,6 @@
 // Controllers: what every kind of machine stands for, and the layer that counts steps.
+#![tactic(auto)]
+
 mod counter;
 
 ghost use Rattle.std.specs.Prelude.{◌≡◌, ℕ, ◌%◌, ◌^◌, ◌≤◌, Bool, true, List, length};

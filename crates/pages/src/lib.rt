@@ -1,4 +1,6 @@
 // A store of shared pages: a snapshot is a row of page numbers, and equal pages lie at one place.
+#![tactic(auto)]
+
 mod counting;
 mod laying;
 

@@ -1,4 +1,6 @@
 // Reads lines that stand for records from standard input, and prints the recording as hexadecimal words.
+#![tactic(auto)]
+
 use anyhow::anyhow;
 use recordtext::{Fault, Line, parse};
 use std::alloc::Global;

@@ -1,4 +1,6 @@
 // Recordings: the check of a recording's words, and the reader that goes through them.
+#![tactic(auto)]
+
 mod checking;
 mod finding;
 mod listing;

@@ -1,4 +1,6 @@
 // Lines of text that stand for records.
+#![tactic(auto)]
+
 mod reading;
 
 ghost use Rattle.recordtext.specs.Lines.{line_of, scan_of, mark_of, Reads};

@@ -1,4 +1,6 @@
 // replay: runs a recording through a machine and prints the machine's words after each scan.
+#![tactic(auto)]
+
 mod call;
 mod print;
 mod trouble;

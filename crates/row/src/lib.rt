@@ -1,4 +1,6 @@
 // The row: an elementary cellular automaton on a ring of 256 cells.
+#![tactic(auto)]
+
 ghost use Rattle.std.specs.Prelude.{◌≡◌, ℕ, ◌*◌, ◌<◌, ◌≤◌, false, length, replicate, MatchResult, slice_index_or};
 ghost use Rattle.std.proofs.Common.{arith};
 ghost use Rattle.machine.specs.Machines.{Words};

@@ -1,5 +1,7 @@
 // The arithmetic of walking back: the least number of repetitions, the split of a gap, the count of steps.
 // A number outside the limits is answered by none. The theorems of the walk stand on these functions.
+#![tactic(auto)]
+
 ghost use Rattle.std.specs.Prelude.{◌≡◌, ℕ, ◌-◌, ◌<◌, ◌≤◌};
 ghost use Rattle.checkpoints.specs.Binomials.{reach, before as earlier};
 ghost use Rattle.checkpoints.specs.Counts.{rounds as roundsAt};

@@ -1,4 +1,6 @@
 // The session: a recorded controller run forward and walked backward, over any machine, source and store.
+#![tactic(auto)]
+
 mod calls;
 mod runs;
 mod table;

@@ -1,5 +1,7 @@
 // Long random lists of calls on sessions over each kind of machine, source and store, every answer held against a
 // plain viewer that keeps no snapshots.
+#![tactic(auto)]
+
 mod draw;
 mod plain;
 mod tally;

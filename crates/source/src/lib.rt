@@ -1,4 +1,6 @@
 // Sources: what every list of recorded scans stands for, and the signal, a list that is computed.
+#![tactic(auto)]
+
 mod signal;
 
 ghost use Rattle.std.specs.Prelude.{◌≡◌, ◌≤◌, List, length};

@@ -1,4 +1,6 @@
 // Snapshot stores: what every kind of store stands for, and two stores as one.
+#![tactic(auto)]
+
 mod pair;
 
 ghost use Rattle.std.specs.Prelude.{◌≡◌, ℕ, ◌≤◌, List, length};

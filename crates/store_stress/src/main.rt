@@ -1,4 +1,6 @@
 // A long random run of each kind of store against a plain list of slots, every answer and every buffer compared.
+#![tactic(auto)]
+
 use copies::Copies;
 use pages::Pages;
 use std::io;

@@ -1,4 +1,6 @@
 // The stores at work: each kind, and a pair of the two, filled with the states of a row at successive scans.
+#![tactic(auto)]
+
 use copies::Copies;
 use machine::Machine;
 use pages::Pages;

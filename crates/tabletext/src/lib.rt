@@ -1,4 +1,6 @@
 // Table files: the text from which a tape is made, one entry a line.
+#![tactic(auto)]
+
 mod line;
 mod read;
 mod text;

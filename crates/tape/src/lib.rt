@@ -1,4 +1,6 @@
 // The tape: a Turing machine on 128 cells whose table and cells a caller sets.
+#![tactic(auto)]
+
 mod entry;
 mod tape;
 

@@ -1,4 +1,6 @@
 // The words that every layer shares: scan numbers, word places, refusals.
+#![tactic(auto)]
+
 ghost use Rattle.terms.specs.Refusals.{number, place as placed};
 ghost use Rattle.terms.specs.declared.Failure.TheVariants.{Refused, NoMemory};
 ghost use Rattle.std.specs.Prelude.{◌≡◌};

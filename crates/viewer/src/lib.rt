@@ -1,4 +1,6 @@
 // What is asked of a session and what it answers; the plain viewer, the rules and the promise are in specs/.
+#![tactic(auto)]
+
 use terms::{Place, Refusal, Scan};
 
 // What a seek looks for in a state.

@@ -1,4 +1,6 @@
 // walk: a session over a machine, a source and a store, run to the end and walked back, every answer printed.
+#![tactic(auto)]
+
 mod asked;
 mod made;
 mod printed;

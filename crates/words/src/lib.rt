@@ -1,4 +1,6 @@
 // Words of 32 bits from hexadecimal text.
+#![tactic(auto)]
+
 ghost use Rattle.std.specs.Prelude.{◌≡◌, ◌+◌, ◌^◌, ◌<◌, ◌≤◌, length, Ok, vec_len, MatchResult};
 ghost use Rattle.words.specs.Hexadecimal.{is_blank, digit, digits, bare, word_of, added, read_all, Tells};
 ghost use Rattle.words.specs.declared.Fault.TheVariants.{NoMemory};

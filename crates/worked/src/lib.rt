@@ -1,4 +1,6 @@
 // The worked examples, as one theorem, on the call that computes the ten counts.
+#![tactic(auto)]
+
 ghost use Rattle.worked.specs.Examples.{Examples, ten_counts};
 ghost use Rattle.std.specs.Prelude.{◌≡◌};
 

@@ -1,4 +1,6 @@
 // The writer of recordings, lists of records written whole, and recordings read and written again.
+#![tactic(auto)]
+
 mod calls;
 mod copying;
 mod lists;
