@@ -1,5 +1,5 @@
 -- The slots after marks or words change.
-use Rattle.std.proofs.Common.{◌≡◌, ℕ, ◌+◌, ◌-◌, ◌*◌, ◌<◌, ◌≤◌, Bool, true, false, cond, List, ◌++◌, length, get_or, take, drop, set, replicate, sym, refl, ap, ◌∙◌, inl, inr, ⊎_elim, arith, rules}
+use Rattle.std.proofs.Common.{◌≡◌, ℕ, ◌+◌, ◌-◌, ◌*◌, ◌<◌, ◌≤◌, Bool, true, false, cond, List, length, get_or, take, drop, set, replicate, sym, ap, ◌∙◌, ⊎_elim, arith, rules}
 use Rattle.std.proofs.lemmas.List.FromFn.{length-map-range_with_len}
 use lib.ListN.{get_or-replicate}
 use borrow.Rule.Slice.PartMut.{put_mid}
@@ -7,7 +7,7 @@ use Rattle.std.proofs.lemmas.List.{drop-take, get_or_past, length-replicate}
 use Rattle.std.proofs.lemmas.Slice.{overwrites, take-put_mid_below, drop-put_mid, between-put_mid}
 use Rattle.std.proofs.lemmas.Bool.{cases_lt, cases_order, cond-true, cond-false}
 use Rattle.store.proofs.Counted.{numbered_empty, numbered_set, numbered_at, row_before}
-use Rattle.store.specs.Slots.{Slot, empty, held, puts, frees}
+use Rattle.store.specs.Slots.{empty, held, frees}
 use Rattle.store.specs.Counting.{numbered}
 use Rattle.copies.specs.Copying.{count, copy, copy_end, slot_of, slots_of}
 

@@ -1,9 +1,9 @@
 -- Snapshots one after another: how many slots there are, and what they hold.
-use Rattle.std.specs.Prelude.{◌≡◌, ℕ, ◌+◌, ◌*◌, ◌/◌, ◌<◌, ◌≤◌, min, Bool, true, false, cond, List, length, take, drop, Ok, Err, Result, nat_le, slice_index_or}
-use Rattle.std.proofs.Common.{sym, ◌∙◌, div-mul-le_self, arith, length-drop, length-take-le}
+use Rattle.std.specs.Prelude.{ℕ, ◌+◌, ◌*◌, ◌/◌, ◌<◌, ◌≤◌, min, Bool, false, cond, List, length, take, drop, Ok, Err, Result, nat_le, slice_index_or}
+use Rattle.std.proofs.Common.{div-mul-le_self, arith, length-drop, length-take-le}
 use Rattle.std.proofs.lemmas.List.FromFn.{length-map-range_with_len}
 use Rattle.std.proofs.lemmas.Nat.{mul-le}
-use Rattle.std.proofs.lemmas.Bool.{leb-true, cond_both}
+use Rattle.std.proofs.lemmas.Bool.{cond_both}
 use Rattle.store.proofs.Counted.{row_before}
 use Rattle.store.specs.Counting.{numbered, numbered_sized}
 use Rattle.store.specs.Slots.{Slot, empty, held, Fit, Sized}

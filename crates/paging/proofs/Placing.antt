@@ -1,11 +1,11 @@
 -- One number noted in a table.
-use Rattle.std.proofs.Common.{◌≡◌, ℕ, ◌+◌, ◌-◌, ◌*◌, ◌/◌, ◌<◌, ◌≤◌, ◌⊎◌, List, length, get_or, set, sym, refl, ap, ◌∙◌, subst, inl, inr, ⊎_elim, arith}
+use Rattle.std.proofs.Common.{◌≡◌, ℕ, ◌+◌, ◌-◌, ◌*◌, ◌<◌, ◌≤◌, ◌⊎◌, List, length, get_or, set, sym, refl, ap, ◌∙◌, inr, ⊎_elim, arith}
 use Rattle.std.proofs.lemmas.List.{get_or-set_same, get_or-set_other}
-use Rattle.std.proofs.lemmas.Bool.{cases_eq, cases_lt, cases_order}
+use Rattle.std.proofs.lemmas.Bool.{cases_eq, cases_lt}
 use Rattle.paging.proofs.Words.{at_none, at_some}
 use Rattle.paging.specs.Layout.{whole}
 use Rattle.paging.specs.Pages.{at, Kept}
-use Rattle.paging.specs.Steps.{Holds, Wrote, Placed, Released}
+use Rattle.paging.specs.Steps.{Holds, Wrote, Placed}
 
 -- a table each of whose numbers is 0 or stood in a table that is kept
 pub kept_from : (limit : ℕ) (table table' pool : List ℕ) → ((x : ℕ) → x < limit → (get_or table' x 0 ≡ 0) ⊎ ((y : ℕ) × (y < limit) × (get_or table' x 0 ≡ get_or table y 0)))

@@ -1,18 +1,18 @@
 -- The slots after a row of the table changes.
-use Rattle.std.proofs.Common.{◌≡◌, ℕ, ◌+◌, ◌-◌, ◌*◌, ◌/◌, ◌%◌, ◌<◌, ◌≤◌, Bool, true, false, cond, eqb, ◌⊎◌, List, map, length, get_or, drop, set, replicate, sym, refl, ap, ◌∙◌, subst, inl, inr, ⊎_elim, arith, length-drop}
+use Rattle.std.proofs.Common.{◌≡◌, ℕ, ◌+◌, ◌-◌, ◌*◌, ◌/◌, ◌%◌, ◌<◌, ◌≤◌, cond, eqb, ◌⊎◌, List, map, length, get_or, drop, set, replicate, sym, refl, ap, ◌∙◌, subst, inl, inr, ⊎_elim, arith, length-drop}
 use lib.ListN.{length-replicate, get_or-replicate}
 use Rattle.std.specs.List.{range_with_len}
 use Rattle.std.proofs.lemmas.Nat.{mul-le}
 use Rattle.std.proofs.lemmas.List.FromFn.{length-map-range_with_len, get_or-map-range_with_len}
 use Rattle.std.proofs.lemmas.List.{ext_get_or, get_or_past, get_or-drop}
 use Rattle.std.proofs.lemmas.Bool.{cases_eq, cases_lt, cases_order, cond-true, cond-false, eq-eqb, ne_eqb}
-use Rattle.store.proofs.Counted.{numbered_set, numbered_same, numbered_empty, numbered_at, row_before}
+use Rattle.store.proofs.Counted.{numbered_set, numbered_empty, numbered_at, row_before}
 use Rattle.store.specs.Counting.{numbered}
-use Rattle.store.specs.Slots.{Slot, empty, held, frees}
+use Rattle.store.specs.Slots.{empty, held, frees}
 use Rattle.paging.proofs.Laying.{released_kept}
 use Rattle.paging.proofs.Words.{at_none}
-use Rattle.paging.specs.Layout.{pages_in, whole, count, Room, roomy}
-use Rattle.paging.specs.Pages.{at, noted, word, shot, slot_of, slots_of, Kept, Tidy, TidyAll, Spared}
+use Rattle.paging.specs.Layout.{pages_in, count, roomy}
+use Rattle.paging.specs.Pages.{at, noted, word, shot, slot_of, slots_of, Tidy, TidyAll, Spared}
 use Rattle.paging.specs.Steps.{Released, Laid}
 
 -- two lists told by the place

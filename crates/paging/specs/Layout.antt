@@ -1,5 +1,5 @@
 -- Pages of four words: how many there are, and where a snapshot's pages are noted.
-use Rattle.std.specs.Prelude.{ℕ, ◌+◌, ◌*◌, ◌/◌, ◌<◌, ◌≤◌, min, Bool, true, false, cond, Ok, Err, Result, nat_le}
+use Rattle.std.specs.Prelude.{ℕ, ◌+◌, ◌*◌, ◌/◌, ◌<◌, ◌≤◌, min, cond, Ok, Err, Result, nat_le}
 use Rattle.std.proofs.Common.{div-mul-le_self, arith}
 use Rattle.std.proofs.lemmas.Nat.{mul-le}
 use Rattle.std.proofs.lemmas.Bool.{leb-true, cond_both}

@@ -1,9 +1,9 @@
 // Reads lines that stand for records from standard input, and prints the recording as hexadecimal words.
 #![tactic(auto)]
 
-use anyhow::anyhow;
 use recordtext::{Fault, Line, parse};
 use std::alloc::Global;
+use std::process::ExitCode;
 use terms::Refusal;
 use writer::Writer;
 
@@ -30,7 +30,7 @@ fn write_line(heap: Global, writer: &mut Writer<'_>, text: &[u8]) -> Result<(), 
     }
 }
 
-fn tell(rt: &HostRuntime, number: u64, trouble: Trouble) -> anyhow::Result<()> {
+fn tell(rt: &HostRuntime, number: u64, trouble: Trouble) -> anyhow::Result<ExitCode> {
     match trouble {
         Trouble::Text(Fault::Bad) => eprintln!(rt; "line {number}: neither a scan nor a mark")?,
         Trouble::Text(Fault::NoMemory) => eprintln!(rt; "line {number}: no memory")?,
@@ -39,10 +39,10 @@ fn tell(rt: &HostRuntime, number: u64, trouble: Trouble) -> anyhow::Result<()> {
             eprintln!(rt; "line {number}: refused {refused}")?;
         }
     }
-    Err(anyhow!("not written"))
+    Ok(ExitCode::FAILURE)
 }
 
-fn run(rt: &HostRuntime) -> anyhow::Result<()> {
+fn run(rt: &HostRuntime) -> anyhow::Result<ExitCode> {
     let mut words = vec![in rt.alloc(); 0u32; 1_000_000]?;
     let mut writer = Writer::new(words.as_mut_slice());
     let mut number = 0u64;
@@ -60,10 +60,10 @@ fn run(rt: &HostRuntime) -> anyhow::Result<()> {
     for word in words.iter().take(used) {
         println!(rt; "{word:08x}")?;
     }
-    Ok(())
+    Ok(ExitCode::SUCCESS)
 }
 
 // What went wrong with a line is told by then.
-fn main(rt: HostRuntime) -> anyhow::Result<()> {
+fn main(rt: HostRuntime) -> anyhow::Result<ExitCode> {
     run(&rt)
 }

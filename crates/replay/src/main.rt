@@ -12,6 +12,7 @@ use recording::Reader;
 use rerun::replay_states;
 use row::Row;
 use source::Source;
+use std::process::ExitCode;
 use std::{env, fs};
 use tabletext::read_tape;
 use tape::Tape;
@@ -75,10 +76,12 @@ fn replayed(rt: &HostRuntime) -> Result<(), Trouble> {
     Ok(())
 }
 
-fn main(rt: HostRuntime) -> Result<(), Trouble> {
-    let outcome = replayed(&rt);
-    if let Err(trouble) = &outcome {
-        let _ = eprintln!(rt; "replay: {trouble}");
+fn main(rt: HostRuntime) -> ExitCode {
+    match replayed(&rt) {
+        Ok(()) => ExitCode::SUCCESS,
+        Err(trouble) => {
+            let _ = eprintln!(rt; "replay: {trouble}");
+            ExitCode::FAILURE
+        }
     }
-    outcome
 }

@@ -1,10 +1,10 @@
 -- A walk over a source's places meets its scans in order, and the states of a run add up.
-use Rattle.std.proofs.Common.{◌≡◌, ℕ, zero, suc, ◌+◌, ◌*◌, ◌<◌, ◌≤◌, true, false, cond, eqb, List, [], ◌∷◌, ◌++◌, length, get_or, drop, Some, None, Option, unwrap_or, sym, refl, ap, ◌∙◌, add-one, arith}
+use Rattle.std.proofs.Common.{◌≡◌, ℕ, zero, suc, ◌+◌, ◌<◌, List, [], ◌∷◌, length, get_or, drop, Some, None, Option, unwrap_or, sym, refl, ap, ◌∙◌, add-one, arith}
 use Rattle.std.proofs.lemmas.Bool.{ne_eqb, eq-eqb}
 use Rattle.terms.specs.declared.Place.{Place}
 use Rattle.machine.specs.Machines.{run}
 use Rattle.source.specs.Scans.{Sample, Above, Rising, first, reading, inputs}
-use Rattle.rerun.specs.Runs.{at, told, scan_at}
+use Rattle.rerun.specs.Runs.{at, scan_at}
 
 -- the place of scan i of a list, all of whose places are above `low`
 above_at : (low : ℕ) (ss : List Sample) → Above low ss → (i : ℕ) (s : Sample) (rest : List Sample) → drop i ss ≡ s ∷ rest → low < s.place

@@ -1,6 +1,5 @@
 -- A run: the state after each scan, the words that tell these states, and the walk from place to place.
-use Rattle.std.specs.Prelude.{◌≡◌, ℕ, zero, suc, ◌+◌, List, [], ◌∷◌, ◌++◌, Some, None, Option, slice_index}
-use Rattle.std.proofs.Common.{ap, add-one}
+use Rattle.std.specs.Prelude.{ℕ, zero, suc, List, [], ◌++◌, Some, None, Option, slice_index}
 use Rattle.std.specs.Option.{unwrap_or}
 use Rattle.terms.specs.declared.Place.{Place}
 use Rattle.source.specs.Scans.{Sample, reading}

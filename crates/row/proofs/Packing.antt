@@ -1,6 +1,6 @@
 -- Packed cells read back, and words packed again.
-use Rattle.std.proofs.Common.{◌≡◌, ℕ, zero, suc, ◌+◌, ◌-◌, ◌*◌, ◌/◌, ◌%◌, ◌^◌, ◌<◌, ◌≤◌, Bool, true, false, cond, List, [], ◌∷◌, length, get_or, drop, sym, refl, ap, ◌∙◌, add-zero, mod-lt, mod-eq_of_lt, mul_comm, pow-suc, arith, drop-cons, pow_pos, pow_mono}
-use native.Mathlib.Nat.{div-div-eq-div-mul, pow-zero}
+use Rattle.std.proofs.Common.{◌≡◌, ℕ, zero, suc, ◌+◌, ◌-◌, ◌*◌, ◌/◌, ◌%◌, ◌^◌, ◌<◌, ◌≤◌, true, List, [], ◌∷◌, length, get_or, drop, sym, refl, ap, ◌∙◌, add-zero, mod-eq_of_lt, mul_comm, pow-suc, arith, drop-cons, pow_pos, pow_mono}
+use native.Mathlib.Nat.{div-div-eq-div-mul}
 use lib.Arith.{mod-mul}
 use Rattle.std.proofs.lemmas.List.{drop_all}
 use Rattle.machine.specs.Machines.{Words}

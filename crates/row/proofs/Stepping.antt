@@ -1,8 +1,8 @@
 -- Cells as a list of flags and as packed words: setting one, writing an input, stepping all.
-use Rattle.std.proofs.Common.{◌≡◌, ℕ, zero, suc, ◌+◌, ◌-◌, ◌*◌, ◌/◌, ◌%◌, ◌^◌, ◌<◌, ◌≤◌, Bool, true, false, cond, ◌&&◌, eqb, ltb, ◌≢◌, ◌⊎◌, List, [], ◌∷◌, length, get_or, set, Ok, sym, refl, ap, ◌∙◌, inl, inr, ⊎_elim, mod-lt, arith, get_or-set_other, get_or-set_same}
+use Rattle.std.proofs.Common.{◌≡◌, ℕ, zero, suc, ◌+◌, ◌-◌, ◌%◌, ◌^◌, ◌<◌, ◌≤◌, Bool, true, false, cond, eqb, ltb, ◌≢◌, ◌⊎◌, List, [], ◌∷◌, length, get_or, set, Ok, sym, refl, ap, ◌∙◌, inl, inr, ⊎_elim, mod-lt, arith, get_or-set_other, get_or-set_same}
 use Rattle.machine.specs.Machines.{address, value, loading, loaded}
 use Rattle.std.proofs.lemmas.Bool.{ne_eqb, eq-eqb, cases_eq, lt-ltb, and_from, cond-true}
-use Rattle.row.specs.Cells.{pack, packed, cell, bit, given, stepped, next, lower, higher, outcome, placed, lawful, fits, wide}
+use Rattle.row.specs.Cells.{packed, cell, bit, given, next, lower, higher, outcome, placed, lawful, fits, wide}
 use Rattle.row.specs.Laws.{pack_same, bit_binary}
 use Rattle.row.proofs.Packing.{cell_pack, pack_cells}
 

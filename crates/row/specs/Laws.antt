@@ -1,9 +1,9 @@
 -- Laws of packed cells on which a row's meaning rests.
-use Rattle.std.specs.Prelude.{◌≡◌, ℕ, zero, suc, ◌+◌, ◌*◌, ◌/◌, ◌%◌, ◌^◌, ◌<◌, ◌≤◌, Bool, true, false, cond, ◌&&◌, List, [], ◌∷◌, length, ◌==◌, nat_lt, slice_index_or, refl}
-use Rattle.std.proofs.Common.{sym, ◌∙◌, ap, pow-suc, mul-le-mul_right, one-mul, mul_comm, two-mul, mod-lt, arith}
+use Rattle.std.specs.Prelude.{◌≡◌, ℕ, zero, suc, ◌+◌, ◌*◌, ◌^◌, ◌<◌, Bool, true, false, List, [], ◌∷◌, length, ◌==◌, nat_lt, slice_index_or, refl}
+use Rattle.std.proofs.Common.{ap, pow-suc, mod-lt, arith}
 use Rattle.machine.specs.Machines.{address, value, read, Words}
 use Rattle.std.proofs.lemmas.Bool.{lt-ltb, ltb-true, and_parts, and_from, eqb-true}
-use Rattle.row.specs.Cells.{bits, words, pack, cell, lawful, fits, wide, given, stepped, next, lower, higher, outcome, bit, packed}
+use Rattle.row.specs.Cells.{bits, words, pack, lawful, fits, wide, given, stepped, next, lower, higher, bit, packed}
 
 -- every cell is 0 or 1
 abbrev pub Binary : (ℕ → ℕ) → Type 0

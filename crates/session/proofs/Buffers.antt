@@ -1,6 +1,6 @@
 -- A part at the front of a buffer, written and read back.
-use Rattle.std.proofs.Common.{◌≡◌, ℕ, zero, suc, ◌+◌, ◌-◌, ◌<◌, ◌≤◌, cond, eqb, List, [], ◌∷◌, ◌++◌, length, get_or, take, drop, replicate, sym, refl, ap, ◌∙◌, arith, get_or-take}
-use borrow.Rule.Slice.PartMut.{mid_of, post_of, same_len_mid}
+use Rattle.std.proofs.Common.{◌≡◌, ℕ, zero, suc, ◌-◌, ◌<◌, ◌≤◌, eqb, List, [], ◌∷◌, ◌++◌, length, get_or, take, replicate, sym, refl, ap, ◌∙◌, arith, get_or-take}
+use borrow.Rule.Slice.PartMut.{mid_of}
 use Rattle.std.proofs.lemmas.List.{length-take-le, take-replicate}
 use lib.Seq.{take-append_seam}
 use Rattle.std.proofs.lemmas.Bool.{eq-eqb, cond-true}

@@ -1,5 +1,5 @@
 -- One turn more of the loops that the model tells by recursion.
-use Rattle.std.proofs.Common.{◌≡◌, ℕ, zero, suc, ◌+◌, ◌-◌, ◌<◌, ◌≤◌, true, false, List, [], ◌∷◌, ◌++◌, length, Some, None, Option, sym, refl, ap, ◌∙◌, arith}
+use Rattle.std.proofs.Common.{◌≡◌, ℕ, zero, suc, ◌+◌, ◌-◌, ◌<◌, ◌≤◌, true, false, List, length, Some, None, Option, sym, refl, ap, ◌∙◌, arith}
 use Rattle.std.proofs.lemmas.Bool.{lt-ltb, le-ltb}
 use Rattle.viewer.specs.Model.{Frame, Now, climb_from, climbed, dropped, emptied, finding, forward, released, restored, returned, shed, snapped, sought, stepped, stride}
 use Rattle.viewer.specs.Answers.{holds}

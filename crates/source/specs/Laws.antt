@@ -1,8 +1,8 @@
 -- Laws of the signal's list that its source rests on.
 use Rattle.std.specs.Prelude.{◌≡◌, ℕ, zero, suc, ◌+◌, ◌<◌, ◌≤◌, length, refl}
-use Rattle.std.proofs.Common.{sym, ◌∙◌, ap, subst, arith, zero-add}
-use Rattle.source.specs.Scans.{Sample, Above, Rising, most}
-use Rattle.source.specs.Signals.{from, wave}
+use Rattle.std.proofs.Common.{ap, arith}
+use Rattle.source.specs.Scans.{Above, Rising, most}
+use Rattle.source.specs.Signals.{from}
 
 pub from_above : (low i n : ℕ) → low < i → Above low (from i n)
 from_above low i zero h = tt

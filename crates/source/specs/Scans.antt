@@ -1,5 +1,5 @@
 -- A list of scans, each with its place and its input: its total, its first place, what stands at a place.
-use Rattle.std.specs.Prelude.{ℕ, ◌+◌, ◌*◌, ◌/◌, ◌%◌, ◌^◌, ◌<◌, ◌≤◌, Bool, true, false, cond, List, [], ◌∷◌, length, Some, None, Option, ◌==◌}
+use Rattle.std.specs.Prelude.{ℕ, ◌<◌, cond, List, [], ◌∷◌, Some, None, Option, ◌==◌}
 use Rattle.terms.specs.declared.Place.{Place}
 
 -- one scan: where it stands and what the controller was given

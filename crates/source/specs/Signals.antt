@@ -1,8 +1,6 @@
 -- The signal: scans whose place is their number, and whose input comes from a linear congruence.
-use Rattle.std.specs.Prelude.{ℕ, zero, suc, ◌+◌, ◌*◌, ◌/◌, ◌%◌, ◌^◌, Bool, true, false, cond, leb, List, [], ◌∷◌, Ok, Err, Result}
-use Rattle.terms.specs.declared.Refusal.{Refusal}
-use Rattle.terms.specs.declared.Refusal.TheVariants.{OutOfLimits}
-use Rattle.source.specs.Scans.{Sample, most}
+use Rattle.std.specs.Prelude.{ℕ, zero, suc, ◌+◌, ◌*◌, ◌/◌, ◌%◌, ◌^◌, List, [], ◌∷◌}
+use Rattle.source.specs.Scans.{Sample}
 
 -- the top 28 bits of i × 1,664,525 + 1,013,904,223 taken modulo 2^32
 abbrev pub wave : ℕ → ℕ

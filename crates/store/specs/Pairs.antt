@@ -1,10 +1,10 @@
 -- Two stores as one: its slots, and what its check answers.
-use Rattle.std.specs.Prelude.{◌≡◌, ℕ, ◌+◌, ◌≤◌, Bool, true, false, cond, List, [], ◌∷◌, ◌++◌, length, Ok, Err, Result, ◌==◌, nat_le}
+use Rattle.std.specs.Prelude.{ℕ, ◌+◌, ◌≤◌, cond, List, [], ◌∷◌, ◌++◌, length, Ok, Err, Result, ◌==◌, nat_le}
 use Rattle.std.proofs.Common.{sym, subst, arith, length-append}
 use Rattle.std.proofs.lemmas.Bool.{leb-true, eqb-true, cond_both}
 use Rattle.terms.specs.declared.Refusal.{Refusal}
 use Rattle.terms.specs.declared.Refusal.TheVariants.{UnevenPair, TooManySlots}
-use Rattle.store.specs.Slots.{Slot, Fit, Sized}
+use Rattle.store.specs.Slots.{Slot, Sized}
 
 -- two stores are refused as a pair for different widths, then for more than 64 slots together
 abbrev pub pairing : (wide wide' : ℕ) (slots slots' : List Slot) → Result (Unit {0}) Refusal

@@ -1,5 +1,5 @@
 -- A table file, line by line.
-use Rattle.std.proofs.Common.{◌≡◌, ℕ, ◌+◌, ◌≤◌, List, [], ◌∷◌, length, drop, None, Ok, Option, Result, sym, refl, ap, ◌∙◌}
+use Rattle.std.proofs.Common.{◌≡◌, ℕ, ◌+◌, ◌≤◌, List, ◌∷◌, length, drop, None, Ok, Option, Result, refl, ap, ◌∙◌}
 use Rattle.std.proofs.lemmas.List.{drop_all}
 use Rattle.tabletext.specs.Grammar.{line_of}
 use Rattle.tabletext.specs.Texts.{lines_of, bad, lined, and_then, body_of, opened, table_of}

@@ -1,10 +1,9 @@
 -- Numbers and moves, read byte by byte.
-use Rattle.std.proofs.Common.{◌≡◌, ℕ, zero, suc, ◌+◌, ◌-◌, ◌*◌, ◌^◌, ◌<◌, ◌≤◌, Bool, true, false, cond, not, ◌&&◌, eqb, ltb, leb, List, [], ◌∷◌, length, get_or, take, drop, Some, None, Option, sym, refl, ap, ◌∙◌, arith}
+use Rattle.std.proofs.Common.{◌≡◌, ℕ, ◌+◌, ◌-◌, ◌*◌, ◌^◌, ◌<◌, ◌≤◌, Bool, true, false, cond, not, ◌&&◌, eqb, ltb, List, [], ◌∷◌, length, get_or, drop, Some, None, refl, ap, ◌∙◌, arith}
 use Rattle.std.specs.Option.{option_map}
 use Rattle.std.proofs.lemmas.List.{drop_more, drop_all, length-drop}
 use Rattle.std.proofs.lemmas.Bool.{cond-true, cond-false, lt-ltb, le-ltb, ne_eqb}
-use Rattle.tabletext.specs.Grammar.{digit, reading, numeral, letter, moving, blank}
-use Rattle.tape.specs.declared.entry.Move.{Move}
+use Rattle.tabletext.specs.Grammar.{digit, reading, letter, moving, blank}
 
 -- what is read from an index on, by the byte there
 module _ (last : Bool) (n : ℕ) (some : Bool) (xs : List ℕ) (i : ℕ) (h : i < length xs) where

@@ -1,5 +1,5 @@
 -- Table files: their lines, and the table that they say.
-use Rattle.std.specs.Prelude.{ℕ, ◌+◌, Bool, true, false, cond, List, [], ◌∷◌, Some, None, Ok, Err, Option, Result, ◌==◌}
+use Rattle.std.specs.Prelude.{ℕ, ◌+◌, cond, List, [], ◌∷◌, Some, None, Ok, Err, Option, Result, ◌==◌}
 use Rattle.tabletext.specs.Grammar.{line_of}
 use Rattle.tabletext.specs.declared.line.BadLine.{BadLine}
 use Rattle.tabletext.specs.declared.line.Line.{Line}

@@ -1,9 +1,9 @@
 -- A symbol read from a word and replaced in it, by shifts.
-use Rattle.std.proofs.Common.{◌≡◌, ℕ, zero, suc, ◌+◌, ◌-◌, ◌*◌, ◌/◌, ◌%◌, ◌^◌, ◌<◌, ◌≤◌, List, [], ◌∷◌, length, get_or, drop, set, sym, refl, ap, ◌∙◌, mul_comm, pow-suc, arith, w32, Fits}
+use Rattle.std.proofs.Common.{◌≡◌, ℕ, zero, suc, ◌+◌, ◌-◌, ◌*◌, ◌/◌, ◌%◌, ◌^◌, ◌<◌, ◌≤◌, List, [], ◌∷◌, length, get_or, drop, set, refl, ap, ◌∙◌, pow-suc, arith, w32, Fits}
 use lib.Bits.{bit_and}
 use Rattle.machine.specs.Machines.{Words}
 use Rattle.std.specs.List.{flat_map}
-use Rattle.std.proofs.lemmas.Nat.{and_mask, shl_whole, shr_split, pow-add, mod_below, mul-le}
+use Rattle.std.proofs.lemmas.Nat.{and_mask, shl_whole, shr_split, mod_below, mul-le}
 use Rattle.std.proofs.lemmas.List.{get_or-drop, length-drop, drop-set-add, get_or-set_other}
 use Rattle.tape.specs.Symbols.{digit_fit}
 use Rattle.tape.specs.Cells.{cell_at, cell_set}

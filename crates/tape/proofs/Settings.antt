@@ -1,10 +1,9 @@
 -- Entries set one after another, and a cell set by hand.
-use Rattle.std.proofs.Common.{◌≡◌, ℕ, zero, suc, ◌+◌, ◌*◌, ◌^◌, ◌<◌, ◌≤◌, Bool, true, false, ◌&&◌, eqb, List, [], ◌∷◌, length, get_or, drop, set, is_ok, Some, None, Ok, Err, Option, Result, sym, refl, ap, ◌∙◌, arith}
-use Rattle.std.specs.List.{AllByRecursion as All}
+use Rattle.std.proofs.Common.{◌≡◌, ℕ, zero, suc, ◌+◌, ◌<◌, ◌≤◌, true, ◌&&◌, eqb, List, [], ◌∷◌, length, get_or, drop, set, is_ok, Some, None, Ok, Err, Option, Result, sym, refl, ap, ◌∙◌, arith}
 use Rattle.std.proofs.ByRecursion.{All-set}
 use Rattle.std.proofs.lemmas.List.{drop_more, drop_all, length-set, get_or-set_same, get_or-set_other}
 use Rattle.std.proofs.lemmas.Bool.{and_parts, and_from, eqb-true, eq-eqb, cond_both, both_ways, false≢true}
-use Rattle.tape.specs.Laws.{Good, Kept, kept, parts, held, words_lawful}
+use Rattle.tape.specs.Laws.{kept, parts, held, words_lawful}
 use Rattle.tape.specs.Layout.{configuration, words, lawful}
 use Rattle.tape.specs.Tables.{empty, setting, entered, filled, judged, tabling, built, taken, sound, latest}
 use Rattle.tape.specs.Turing.{place, found, marked}

@@ -1,17 +1,16 @@
 -- One scan on words and on configurations, and what it leaves as it was.
-use Rattle.std.proofs.Common.{◌≡◌, ℕ, zero, suc, ◌+◌, ◌-◌, ◌*◌, ◌/◌, ◌%◌, ◌^◌, ◌<◌, ◌≤◌, Bool, true, false, cond, ◌&&◌, eqb, ltb, leb, ◌⊎◌, List, [], ◌∷◌, length, get_or, drop, set, Some, None, Option, sym, refl, ap, ◌∙◌, subst, ⊎_elim, arith}
+use Rattle.std.proofs.Common.{◌≡◌, ℕ, ◌+◌, ◌-◌, ◌*◌, ◌/◌, ◌%◌, ◌<◌, ◌≤◌, true, ◌&&◌, eqb, ltb, leb, List, length, get_or, drop, Some, None, Option, sym, refl, ap, ◌∙◌, subst, ⊎_elim, arith}
 use Rattle.machine.specs.Machines.{Words, address, value}
-use Rattle.std.specs.List.{flat_map}
 use Rattle.std.proofs.lemmas.List.{get_or-set_other, length-drop, get_or-drop}
 use Rattle.std.proofs.lemmas.Bool.{and_parts, ltb-true, eqb-true, eq-eqb, ne_eqb, lt-ltb, or_cases, cond-true, cond-false, cond_both}
 use Rattle.tape.proofs.Marks.{pairs}
 use Rattle.tape.specs.Cells.{cell_at}
-use Rattle.tape.specs.Laws.{Lawful, Good, parts, kept, held, fed_good, sound_at, words_configuration}
-use Rattle.tape.specs.Layout.{wide, symbols, configuration, words, known, lawful}
+use Rattle.tape.specs.Laws.{Good, parts, kept, held, fed_good, sound_at, words_configuration}
+use Rattle.tape.specs.Layout.{wide, configuration, words, known, lawful}
 use Rattle.tape.specs.Locality.{Local, Near, Resting, Located}
 use Rattle.tape.specs.Tables.{taken, sound, small}
 use Rattle.tape.specs.Tapes.{next}
-use Rattle.tape.specs.Turing.{Configuration, rest, size, scanned, found, place, edge, marked, acted, turn, fed, scan}
+use Rattle.tape.specs.Turing.{Configuration, rest, size, scanned, found, edge, marked, acted, turn, fed, scan}
 use Rattle.tape.specs.declared.entry.Entry.{Entry}
 use Rattle.tape.specs.declared.entry.Move.{Move}
 use Rattle.tape.specs.declared.entry.Move.TheVariants.{Left, Right, Stay}

@@ -1,9 +1,9 @@
 -- The cells of a list of words: reading and replacing one, and packing them again.
-use Rattle.std.specs.Prelude.{◌≡◌, ℕ, zero, suc, ◌+◌, ◌-◌, ◌*◌, ◌/◌, ◌%◌, ◌^◌, ◌<◌, ◌≤◌, Bool, true, false, ◌&&◌, List, [], ◌∷◌, ◌++◌, length, drop, set, slice_index, slice_set, refl}
+use Rattle.std.specs.Prelude.{◌≡◌, ℕ, zero, suc, ◌+◌, ◌-◌, ◌*◌, ◌/◌, ◌%◌, ◌^◌, ◌<◌, List, [], ◌∷◌, ◌++◌, length, drop, set, slice_index, slice_set, refl}
 use Rattle.std.proofs.Common.{sym, ◌∙◌, ap, arith}
 use Rattle.std.specs.Simd.Lanes.{number_l}
 use Rattle.machine.specs.Machines.{Words}
-use Rattle.std.specs.List.{flat_map, AllByRecursion as All}
+use Rattle.std.specs.List.{flat_map, AllByRecursion}
 use Rattle.std.proofs.ByRecursion.{All-append, All-drop}
 use Rattle.std.proofs.lemmas.List.{get_or_append_left, get_or-append_right, set-append_left, set-append_right, take_at, drop_at, length-append}
 use Rattle.tape.specs.Symbols.{digit_at, digit_set, number_digits, digits_small, number_small}
@@ -26,7 +26,7 @@ number_symbols : (w : ℕ) → w < 2 ^ 32 → number_l 4 (symbols w) ≡ w
 unfolding symbols
 number_symbols w h = number_digits 16 w h
 
-symbols_small : (w : ℕ) → All (λ s. s < 4) (symbols w)
+symbols_small : (w : ℕ) → AllByRecursion (λ s. s < 4) (symbols w)
 unfolding symbols
 symbols_small w = digits_small 16 w
 
@@ -79,12 +79,12 @@ packed_cells (suc n) (w ∷ ws) e h =
     cc
 
 -- every cell holds a symbol below 4
-pub cells_small : (ws : List ℕ) → All (λ s. s < 4) (flat_map symbols ws)
+pub cells_small : (ws : List ℕ) → AllByRecursion (λ s. s < 4) (flat_map symbols ws)
 cells_small [] = tt
 cells_small (w ∷ ws) = All-append (λ s. s < 4) (symbols w) (flat_map symbols ws) (symbols_small w) (cells_small ws)
 
 -- packed cells are words of 32 bits
-pub packed_words : (n : ℕ) (cells : List ℕ) → All (λ s. s < 4) cells → Words (packed n cells)
+pub packed_words : (n : ℕ) (cells : List ℕ) → AllByRecursion (λ s. s < 4) cells → Words (packed n cells)
 packed_words zero cells h = tt
 packed_words (suc n) cells h = (number_small 16 cells h, packed_words n (drop 16 cells) (All-drop (λ s. s < 4) 16 cells h))
 

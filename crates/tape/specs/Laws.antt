@@ -1,16 +1,16 @@
 -- What a machine's kind has to show: lawful states are ten words, the rule keeps to them and reads 28 bits.
-use Rattle.std.specs.Prelude.{◌≡◌, ℕ, zero, suc, ◌+◌, ◌-◌, ◌*◌, ◌/◌, ◌%◌, ◌^◌, ◌<◌, ◌≤◌, Bool, true, false, cond, ◌&&◌, ◌||◌, ◌⊎◌, List, [], ◌∷◌, length, get_or, drop, is_ok, Some, None, Ok, Err, Option, Result, ◌==◌, nat_le, nat_lt, slice_index, slice_index_or, refl}
-use Rattle.std.proofs.Common.{⊎_elim, sym, ◌∙◌, ap, arith}
+use Rattle.std.specs.Prelude.{◌≡◌, ℕ, zero, suc, ◌+◌, ◌-◌, ◌/◌, ◌%◌, ◌^◌, ◌<◌, ◌≤◌, Bool, true, false, cond, ◌&&◌, List, [], ◌∷◌, length, get_or, drop, is_ok, Some, None, Ok, Err, Option, Result, ◌==◌, nat_le, nat_lt, slice_index, slice_index_or, refl}
+use Rattle.std.proofs.Common.{⊎_elim, ◌∙◌, ap, arith}
 use Rattle.machine.specs.Machines.{Words, read, address, value}
-use Rattle.std.specs.List.{AllByRecursion as All}
+use Rattle.std.specs.List.{AllByRecursion}
 use Rattle.std.proofs.Math.Pow.{mod-mod-pow}
 use Rattle.std.proofs.Math.Nat.{mod-mod}
 use Rattle.std.proofs.lemmas.Nat.{field_of}
 use Rattle.std.proofs.ByRecursion.{All-set}
 use Rattle.std.proofs.lemmas.Bool.{and_parts, and_from, eqb-true, eq-eqb, ltb-true, lt-ltb, or_right, or_cases, cond_both, false≢true}
 use Rattle.tape.specs.Cells.{cells_small, packed_words, packed_cells, length_packed}
-use Rattle.tape.specs.Layout.{wide, symbols, configuration, packed, words, fit, known, lawful}
-use Rattle.tape.specs.Tables.{setting, taken, sound}
+use Rattle.tape.specs.Layout.{wide, configuration, words, fit, known, lawful}
+use Rattle.tape.specs.Tables.{taken, sound}
 use Rattle.tape.specs.Tapes.{next}
 use Rattle.tape.specs.Turing.{Configuration, rest, size, scanned, found, place, edge, marked, acted, turn, fed, scan}
 use Rattle.tape.specs.declared.entry.Entry.{Entry}
@@ -57,7 +57,7 @@ sized_by states x h = let p = parts states x h in (p.long, p.words)
 pub record Good (states : ℕ) (c : Configuration) : Type 0 where
   pub control : known states c.control ≡ true
   pub head : c.head < size
-  pub cells : All (λ s. s < 4) c.cells
+  pub cells : AllByRecursion (λ s. s < 4) c.cells
 
 pub held : (states : ℕ) (x : List ℕ) → Lawful states x → Good states (configuration x)
 held states x h = record { control = h.control; head = h.head; cells = cells_small (drop 2 x) }

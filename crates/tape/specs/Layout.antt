@@ -1,5 +1,5 @@
 -- How the words of a state hold a configuration, and which words are a lawful state.
-use Rattle.std.specs.Prelude.{ℕ, zero, suc, ◌+◌, ◌*◌, ◌/◌, ◌%◌, ◌^◌, ◌<◌, Bool, true, false, ◌&&◌, ◌||◌, List, [], ◌∷◌, length, take, drop, ◌==◌, nat_lt, slice_index}
+use Rattle.std.specs.Prelude.{ℕ, zero, suc, ◌^◌, Bool, true, ◌&&◌, ◌||◌, List, [], ◌∷◌, length, take, drop, ◌==◌, nat_lt, slice_index}
 use Rattle.std.specs.Simd.Lanes.{number_l, digits_l}
 use Rattle.std.specs.List.{flat_map}
 use Rattle.tape.specs.Turing.{Configuration, rest, size}

@@ -1,12 +1,9 @@
 -- Words as 16 symbols: reading and replacing one, and packing them again.
-use Rattle.std.specs.Prelude.{◌≡◌, ℕ, zero, suc, ◌+◌, ◌-◌, ◌*◌, ◌/◌, ◌%◌, ◌^◌, ◌<◌, ◌≤◌, Bool, true, false, ◌&&◌, ◌⊎◌, List, [], ◌∷◌, ◌++◌, length, take, slice_index, slice_set, refl}
-use Rattle.std.proofs.Common.{inl, inr, ⊎_elim, sym, ◌∙◌, ap, pow-suc, mul_comm, mul_assoc, arith}
+use Rattle.std.specs.Prelude.{◌≡◌, ℕ, zero, suc, ◌+◌, ◌*◌, ◌/◌, ◌%◌, ◌^◌, ◌<◌, List, [], ◌∷◌, take, slice_index, slice_set}
+use Rattle.std.proofs.Common.{sym, ◌∙◌, ap, pow-suc, mul_comm, mul_assoc, arith}
 use Rattle.std.proofs.Math.Nat.{div-div-eq-div-mul}
 use Rattle.std.specs.Simd.Lanes.{number_l, digits_l}
-use Rattle.std.specs.List.{flat_map, AllByRecursion as All}
-use Rattle.std.proofs.lemmas.List.{get_or_append_left, get_or-append_right, set-append_left, set-append_right, take_at, drop_at}
-use Rattle.std.proofs.lemmas.Bool.{cases_lt}
-use Rattle.tape.specs.Layout.{symbols, packed}
+use Rattle.std.specs.List.{AllByRecursion}
 
 -- one power of 4 more
 four : (p : ℕ) → 4 ^ suc p ≡ 4 * 4 ^ p
@@ -69,12 +66,12 @@ number_digits (suc n) w h =
     omega arith
 
 -- a symbol is below 4
-pub digits_small : (n w : ℕ) → All (λ s. s < 4) (digits_l 4 n w)
+pub digits_small : (n w : ℕ) → AllByRecursion (λ s. s < 4) (digits_l 4 n w)
 digits_small zero w = tt
 digits_small (suc n) w = (omega arith, digits_small n (w / 4))
 
 -- packed symbols fit as many digits
-pub number_small : (n : ℕ) (ss : List ℕ) → All (λ s. s < 4) ss → number_l 4 (take n ss) < 4 ^ n
+pub number_small : (n : ℕ) (ss : List ℕ) → AllByRecursion (λ s. s < 4) ss → number_l 4 (take n ss) < 4 ^ n
 number_small zero ss h = omega arith
 number_small (suc n) [] h = let f = four n in let p = number_small n [] tt in omega arith
 number_small (suc n) (s ∷ ss) h =

@@ -1,5 +1,5 @@
 -- Tables: which entries are taken, what a table holds once they are, and how the first bad one is told.
-use Rattle.std.specs.Prelude.{◌≡◌, ℕ, ◌+◌, ◌<◌, Bool, true, false, cond, ◌&&◌, List, [], ◌∷◌, set, replicate, is_ok, Some, None, Ok, Err, Option, Result, ◌==◌, nat_le, nat_lt, slice_set}
+use Rattle.std.specs.Prelude.{◌≡◌, ℕ, ◌+◌, ◌<◌, Bool, true, cond, ◌&&◌, List, [], ◌∷◌, replicate, is_ok, Some, None, Ok, Err, Option, Result, ◌==◌, nat_le, nat_lt, slice_set}
 use Rattle.tape.specs.Layout.{known}
 use Rattle.tape.specs.Turing.{place, found}
 use Rattle.tape.specs.declared.entry.BadEntry.{BadEntry}

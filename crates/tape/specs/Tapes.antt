@@ -1,5 +1,5 @@
 -- What a tape stands for: its number of control states, its table, its state; the rule from state to state.
-use Rattle.std.specs.Prelude.{◌≡◌, ℕ, ◌≤◌, Bool, true, false, cond, List, replicate, Ok, Err, Option, Result, MatchResult, nat_lt}
+use Rattle.std.specs.Prelude.{◌≡◌, ℕ, true, false, cond, List, replicate, Ok, Err, Option, Result, MatchResult, nat_lt}
 use Rattle.tape.specs.Layout.{wide, configuration, words}
 use Rattle.tape.specs.Tables.{limits, empty}
 use Rattle.tape.specs.Turing.{Configuration, marked, scan, size}

@@ -1,7 +1,7 @@
 // The tape's record: its table, and its state in the words that are saved.
-pub mod machine;
 mod memory;
 mod setup;
+pub mod stepping;
 
 ghost use Rattle.std.specs.Prelude.{◌≡◌, ◌≤◌, true, length};
 ghost use Rattle.tape.specs.Layout.{wide, lawful};

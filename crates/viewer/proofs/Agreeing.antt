@@ -7,7 +7,7 @@ use Rattle.terms.specs.declared.Refusal.TheVariants.{NotOpen, BadSlots, WidthsDi
 use Rattle.machine.specs.Machines.{cap}
 use Rattle.store.specs.Slots.{Slot}
 use Rattle.checkpoints.specs.Backs.{steps, back, back_acts, walk, walked}
-use Rattle.viewer.specs.Answers.{Value, value_of, holds}
+use Rattle.viewer.specs.Answers.{Value, value_of}
 use Rattle.viewer.specs.Viewing.{Given, View, latest, lowest, refuses, when_open, when_closed, landing, tells, views, replies}
 use Rattle.viewer.specs.Rules.{Book, backs, booked, books}
 use Rattle.viewer.specs.Model.{Frame, Now, floor, returned, sought, shed, stops, makes, answers, called, answered}

@@ -2,7 +2,7 @@
 use Rattle.std.proofs.Common.{◌≡◌, ℕ, List, [], ◌∷◌, ◌++◌, map, length, drop, sym, refl, ◌∙◌, arith}
 use Rattle.store.specs.Slots.{Slot}
 use Rattle.viewer.specs.Answers.{value_of}
-use Rattle.viewer.specs.Viewing.{Given, View, state_at, fresh, views, replies}
+use Rattle.viewer.specs.Viewing.{Given, View, state_at, fresh, views}
 use Rattle.viewer.specs.Rules.{Book, blank, books, viewed, kept, told}
 use Rattle.viewer.specs.Model.{Frame, Now, called, ran, said}
 use Rattle.viewer.specs.Promises.{Promise, Priced, record_at, shelf}

@@ -1,5 +1,5 @@
 -- The promise is kept: from a closed session, every list of calls.
-use Rattle.std.proofs.Common.{◌≡◌, ℕ, List, [], length}
+use Rattle.std.proofs.Common.{◌≡◌, List, [], length}
 use Rattle.viewer.specs.Model.{Frame, Now, ran, said}
 use Rattle.viewer.specs.Promises.{Promise}
 use Rattle.viewer.specs.declared.Call.{Call}

@@ -1,5 +1,5 @@
 -- The held scans and their slots: the last one put, freed and taken up again.
-use Rattle.std.proofs.Common.{◌≡◌, ℕ, suc, ◌+◌, ◌-◌, ◌<◌, ◌≤◌, List, [], ◌∷◌, ◌++◌, map, length, get_or, set, replicate, Some, sym, refl, ap, ◌∙◌, inl, inr, append_assoc, arith}
+use Rattle.std.proofs.Common.{◌≡◌, ℕ, suc, ◌-◌, ◌<◌, ◌≤◌, List, [], ◌∷◌, ◌++◌, map, length, get_or, set, replicate, Some, sym, refl, ap, ◌∙◌, inl, inr, append_assoc, arith}
 use lib.ListN.{length-map}
 use lib.Seq.{get_or_at, set_at}
 use Rattle.std.proofs.lemmas.Bool.{cases_lt}

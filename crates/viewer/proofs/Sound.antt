@@ -1,5 +1,5 @@
 -- When a session is sound: what an open one holds at scan n, and what its parts owe it.
-use Rattle.std.proofs.Common.{◌≡◌, ℕ, zero, suc, ◌+◌, ◌-◌, ◌<◌, ◌≤◌, min, Bool, true, false, cond, List, [], ◌∷◌, ◌++◌, map, length, drop}
+use Rattle.std.proofs.Common.{◌≡◌, ℕ, ◌+◌, ◌-◌, ◌<◌, ◌≤◌, min, true, List, [], ◌∷◌, ◌++◌, map, length, drop}
 use Rattle.machine.specs.Machines.{cap}
 use Rattle.source.specs.Scans as scans
 use Rattle.store.specs.Slots.{Slot}

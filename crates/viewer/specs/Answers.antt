@@ -1,7 +1,6 @@
 -- The value of every answer, and what a watch looks for.
 use Rattle.std.specs.Prelude.{ℕ, Bool, List, Some, None, Option, ◌==◌, bit_and, count_ones, nat_le, slice_index}
 use Rattle.terms.specs.declared.Place.{Place}
-use Rattle.terms.specs.declared.Refusal.{Refusal}
 use Rattle.terms.specs.Refusals.{number, place as placed}
 use Rattle.viewer.specs.declared.Watch.{Watch}
 use Rattle.viewer.specs.declared.Watch.TheVariants.{Equal, Ones}

@@ -1,5 +1,5 @@
 -- What a session stands for, as plain values, and each of its calls as a total function on them.
-use Rattle.std.specs.Prelude.{ℕ, zero, suc, ◌+◌, ◌-◌, ◌^◌, min, Bool, true, false, cond, ◌&&◌, ◌||◌, List, [], ◌∷◌, ◌++◌, length, take, replicate, Some, None, Option, ◌==◌, nat_le, nat_lt, slice_index}
+use Rattle.std.specs.Prelude.{ℕ, zero, suc, ◌+◌, ◌-◌, ◌^◌, min, Bool, cond, ◌&&◌, ◌||◌, List, [], ◌∷◌, ◌++◌, length, take, replicate, Some, None, Option, ◌==◌, nat_le, nat_lt, slice_index}
 use Rattle.terms.specs.declared.Place.{Place}
 use Rattle.terms.specs.declared.Scan.{Scan}
 use Rattle.terms.specs.declared.Refusal.{Refusal}
@@ -7,7 +7,6 @@ use Rattle.terms.specs.declared.Refusal.TheVariants.{NotOpen, BadSlots, WidthsDi
 use Rattle.machine.specs.Machines.{counted, loaded}
 use Rattle.source.specs.Scans.{Sample, first, reading}
 use Rattle.store.specs.Slots.{Slot, puts, got, frees}
-use Rattle.store.specs.Slots.Slot.{empty, held}
 use Rattle.checkpoints.specs.Counts.{split}
 use Rattle.viewer.specs.Answers.{holds, watched}
 use Rattle.viewer.specs.declared.Held.{Held}

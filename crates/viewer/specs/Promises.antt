@@ -1,5 +1,5 @@
 -- The promise: a session answers every list of calls as the plain viewer does, and keeps the rules.
-use Rattle.std.specs.Prelude.{◌≡◌, ℕ, ◌+◌, ◌-◌, ◌*◌, ◌≤◌, Bool, true, false, cond, List, [], ◌∷◌, ◌++◌, map, length, drop, replicate, Some, None, Option}
+use Rattle.std.specs.Prelude.{◌≡◌, ℕ, ◌+◌, ◌-◌, ◌*◌, ◌≤◌, List, ◌++◌, map, length, drop, replicate, Some, None, Option}
 use Rattle.terms.specs.declared.Place.{Place}
 use Rattle.source.specs.Scans.{Sample, first}
 use Rattle.store.specs.Slots.{Slot}
@@ -8,9 +8,9 @@ use Rattle.checkpoints.specs.Backs.{Act, steps}
 use Rattle.checkpoints.specs.Binomials.{choose, reach}
 use Rattle.checkpoints.specs.Counts.{rounds}
 use Rattle.checkpoints.specs.Schedules.{Schedule}
-use Rattle.viewer.specs.Answers.{Value, value_of}
-use Rattle.viewer.specs.Viewing.{Given, View, state_at, fresh}
-use Rattle.viewer.specs.Rules.{Book, Walk, blank, viewed, kept, told}
+use Rattle.viewer.specs.Answers.{value_of}
+use Rattle.viewer.specs.Viewing.{Given, state_at, fresh}
+use Rattle.viewer.specs.Rules.{Walk, blank, viewed, kept, told}
 use Rattle.viewer.specs.declared.Held.{Held}
 use Rattle.viewer.specs.declared.Call.{Call}
 use Rattle.viewer.specs.declared.Answer.{Answer}

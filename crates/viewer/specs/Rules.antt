@@ -1,9 +1,8 @@
 -- The rules of the held list and the count: what each accepted call makes of those before it, with the acts of a walk.
-use Rattle.std.specs.Prelude.{ℕ, zero, suc, ◌+◌, ◌-◌, min, Bool, true, false, cond, List, [], ◌∷◌, ◌++◌, length, take, drop, Some, None, Option}
-use Rattle.terms.specs.declared.Refusal.{Refusal}
+use Rattle.std.specs.Prelude.{ℕ, ◌+◌, ◌-◌, min, List, [], ◌∷◌, ◌++◌, Some, None, Option}
 use Rattle.machine.specs.Machines.{cap}
-use Rattle.checkpoints.specs.Backs.{Act, steps, back, back_acts, walk, walked}
-use Rattle.viewer.specs.Viewing.{Given, View, lowest, refuses, views, replies, landing, fresh}
+use Rattle.checkpoints.specs.Backs.{Act, steps, walk, walked}
+use Rattle.viewer.specs.Viewing.{Given, View, lowest, refuses, views, replies, landing}
 use Rattle.viewer.specs.Answers.{Value}
 use Rattle.viewer.specs.declared.Call.{Call}
 use Rattle.viewer.specs.declared.Call.TheVariants.{Open, Ahead, Back, Seek, Look, Count, Turn}

@@ -1,11 +1,10 @@
 -- The plain viewer: it keeps no snapshots, and finds every state from the start.
-use Rattle.std.specs.Prelude.{ℕ, zero, suc, ◌+◌, ◌-◌, Bool, true, false, cond, not, ◌||◌, List, [], ◌∷◌, length, take, Some, None, Option, ◌==◌, nat_le, nat_lt, slice_index}
-use Rattle.terms.specs.declared.Place.{Place}
+use Rattle.std.specs.Prelude.{ℕ, zero, suc, ◌+◌, ◌-◌, Bool, true, false, cond, ◌||◌, List, length, take, Some, None, Option, ◌==◌, nat_le, nat_lt, slice_index}
 use Rattle.terms.specs.declared.Refusal.{Refusal}
 use Rattle.terms.specs.declared.Refusal.TheVariants.{NotOpen, BadSlots, WidthsDiffer, AtStart, AlreadyOpen, AtEnd, NoWord}
 use Rattle.terms.specs.Refusals.{number, place as placed}
 use Rattle.machine.specs.Machines.{run}
-use Rattle.source.specs.Scans.{Sample, first, inputs}
+use Rattle.source.specs.Scans.{Sample, inputs}
 use Rattle.viewer.specs.Answers.{Value, holds, watched}
 use Rattle.viewer.specs.Answers.Value.{total, scan, none, word, refusal}
 use Rattle.viewer.specs.declared.Watch.{Watch}

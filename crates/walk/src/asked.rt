@@ -1,8 +1,13 @@
 // The command line: which machine, which source, which store, how many slots, and what to seek.
 use viewer::Watch;
 
-const USAGE: &str =
+// How the program is called.
+pub const USAGE: &str =
     "usage: walk row RULE CELL|none | tape TABLE, then signal N | recording FILE, then copies|pages|pair SLOTS, then nothing | equal WORD MASK VALUE | ones WORD N";
+
+// A command line that is not as `USAGE` tells.
+#[derive(Clone, Copy)]
+pub struct Misused;
 
 // The machine to run: a row with at most one start cell, or a tape by its table's file.
 #[derive(Clone, Copy)]
@@ -35,26 +40,26 @@ pub struct Request<'a> {
     pub watch: Option<Watch>,
 }
 
-fn number(text: &str) -> anyhow::Result<u32> {
+fn number(text: &str) -> Result<u32, Misused> {
     match text.parse::<u32>() {
         Ok(n) => Ok(n),
-        Err(_) => Err(USAGE.into()),
+        Err(_) => Err(Misused),
     }
 }
 
-fn word_at<'a>(args: &'a [String], at: usize) -> anyhow::Result<&'a str> {
+fn word_at<'a>(args: &'a [String], at: usize) -> Result<&'a str, Misused> {
     match args.get(at) {
         Some(text) => Ok(text.as_str()),
-        None => Err(USAGE.into()),
+        None => Err(Misused),
     }
 }
 
-fn number_at(args: &[String], at: usize) -> anyhow::Result<u32> {
+fn number_at(args: &[String], at: usize) -> Result<u32, Misused> {
     number(word_at(args, at)?)
 }
 
 // The machine, and where the source's words begin.
-fn kind_of<'a>(args: &'a [String]) -> anyhow::Result<(Kind<'a>, usize)> {
+fn kind_of<'a>(args: &'a [String]) -> Result<(Kind<'a>, usize), Misused> {
     match word_at(args, 1)? {
         "row" => {
             let rule = number_at(args, 2)?;
@@ -70,28 +75,28 @@ fn kind_of<'a>(args: &'a [String]) -> anyhow::Result<(Kind<'a>, usize)> {
             },
             3,
         )),
-        _ => Err(USAGE.into()),
+        _ => Err(Misused),
     }
 }
 
-fn feed_of<'a>(args: &'a [String], at: usize) -> anyhow::Result<Feed<'a>> {
+fn feed_of<'a>(args: &'a [String], at: usize) -> Result<Feed<'a>, Misused> {
     match word_at(args, at)? {
         "signal" => Ok(Feed::Signal(number_at(args, at.saturating_add(1))?)),
         "recording" => Ok(Feed::Recording(word_at(args, at.saturating_add(1))?)),
-        _ => Err(USAGE.into()),
+        _ => Err(Misused),
     }
 }
 
-fn keep_of(text: &str) -> anyhow::Result<Keep> {
+fn keep_of(text: &str) -> Result<Keep, Misused> {
     match text {
         "copies" => Ok(Keep::Copies),
         "pages" => Ok(Keep::Pages),
         "pair" => Ok(Keep::Pair),
-        _ => Err(USAGE.into()),
+        _ => Err(Misused),
     }
 }
 
-fn watch_of(args: &[String], at: usize) -> anyhow::Result<Option<Watch>> {
+fn watch_of(args: &[String], at: usize) -> Result<Option<Watch>, Misused> {
     if at >= args.len() {
         return Ok(None);
     }
@@ -107,12 +112,12 @@ fn watch_of(args: &[String], at: usize) -> anyhow::Result<Option<Watch>> {
             word,
             least: second,
         })),
-        _ => Err(USAGE.into()),
+        _ => Err(Misused),
     }
 }
 
 // The words of a command line, the program's own name first.
-pub(crate) fn read_request<'a>(args: &'a [String]) -> anyhow::Result<Request<'a>> {
+pub(crate) fn read_request<'a>(args: &'a [String]) -> Result<Request<'a>, Misused> {
     let (kind, at) = kind_of(args)?;
     let feed = feed_of(args, at)?;
     let at = at.saturating_add(2);

@@ -16,11 +16,8 @@ use tape::Tape;
 use terms::Refusal;
 use words::read_words;
 
-fn refused(rt: &HostRuntime, why: Refusal) -> anyhow::Error {
-    match format!(in rt.alloc(); "refused {why}") {
-        Ok(text) => text.into(),
-        Err(_) => "want of memory".into(),
-    }
+fn refused(why: Refusal) -> anyhow::Error {
+    anyhow!("refused {why}")
 }
 
 // What a store tells of its pages: how many are used, and how many are free.
@@ -97,7 +94,7 @@ fn walk_recording<M: Machine + Drop>(
     };
     let mut reader = Reader::new(words.as_slice());
     if let Err(why) = reader.check() {
-        return Err(refused(rt, why));
+        return Err(refused(why));
     }
     walk_store(rt, machine, reader, ask)
 }
@@ -110,7 +107,7 @@ fn walk_source<M: Machine + Drop>(
     match ask.feed {
         Feed::Signal(total) => match Signal::new(total) {
             Ok(signal) => walk_store(rt, machine, signal, ask),
-            Err(why) => Err(refused(rt, why)),
+            Err(why) => Err(refused(why)),
         },
         Feed::Recording(file) => walk_recording(rt, machine, file, ask),
     }
@@ -128,7 +125,7 @@ pub(crate) fn walk_machine(rt: &HostRuntime, ask: &Request<'_>) -> anyhow::Resul
     match ask.kind {
         Kind::Row { rule, cell } => match made_row(rule, cell) {
             Ok(row) => walk_source(rt, row, ask),
-            Err(why) => Err(refused(rt, why)),
+            Err(why) => Err(refused(why)),
         },
         Kind::Tape { table } => {
             let text = fs::read(rt, table)?;

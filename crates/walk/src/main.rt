@@ -5,18 +5,25 @@ mod asked;
 mod made;
 mod printed;
 
-use asked::read_request;
+use asked::{USAGE, read_request};
 use made::walk_machine;
 use std::env;
+use std::process::ExitCode;
 
-fn walked(rt: &HostRuntime) -> anyhow::Result<()> {
+fn walked(rt: &HostRuntime) -> anyhow::Result<ExitCode> {
     let mut args = Vec::new(rt.alloc());
     for arg in env::args(rt)? {
         args.push(arg)?;
     }
-    walk_machine(rt, &read_request(args.as_slice())?)
+    // the usage is longer than an error of anyhow keeps
+    let Ok(ask) = read_request(args.as_slice()) else {
+        eprintln!(rt; "Error: {USAGE}")?;
+        return Ok(ExitCode::FAILURE);
+    };
+    walk_machine(rt, &ask)?;
+    Ok(ExitCode::SUCCESS)
 }
 
-fn main(rt: HostRuntime) -> anyhow::Result<()> {
+fn main(rt: HostRuntime) -> anyhow::Result<ExitCode> {
     walked(&rt)
 }

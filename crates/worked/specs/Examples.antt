@@ -3,7 +3,6 @@ use Rattle.std.specs.Prelude.{◌≡◌, ℕ, List, [], ◌∷◌, replicate, So
 use Rattle.checkpoints.specs.Theorems.{Worked}
 use Rattle.recording.specs.Format.{checked, samples}
 use Rattle.row.specs.Cells.{next, placed, wide}
-use Rattle.source.specs.Scans.{Sample}
 
 -- an end alone
 abbrev pub bare : List ℕ

@@ -14,7 +14,7 @@ impl Writer<'_> {
     pub fn scan(&mut self, input: u32) -> Result<(), Refusal>
         ensures value { result ≡ scanning (room self.old.words.now) self.old.used self.old.closed input }
         ensures words { self.new.words.now ≡ (if is_ok result then over self.old.words.now self.old.used (spelled (scan input)) else self.old.words.now) }
-        ensures used { self.new.used ≡ cond (is_ok result) (self.old.used + 1) self.old.used }
+        ensures used { self.new.used ≡ (if is_ok result then (self.old.used + 1) else self.old.used) }
         ensures closed { self.new.closed ≡ self.old.closed }
         ensures name { self.new.words.ghost_name ≡ self.old.words.ghost_name }
     {
@@ -31,7 +31,7 @@ impl Writer<'_> {
     pub fn mark(&mut self, number: u32, more: &[u32]) -> Result<(), Refusal>
         ensures value { result ≡ marking (room self.old.words.now) self.old.used self.old.closed number more.now }
         ensures words { self.new.words.now ≡ (if is_ok result then over self.old.words.now self.old.used (spelled (mark number more.now)) else self.old.words.now) }
-        ensures used { self.new.used ≡ cond (is_ok result) (self.old.used + (length more.now + 1)) self.old.used }
+        ensures used { self.new.used ≡ (if is_ok result then (self.old.used + (length more.now + 1)) else self.old.used) }
         ensures closed { self.new.closed ≡ self.old.closed }
         ensures name { self.new.words.ghost_name ≡ self.old.words.ghost_name }
     {
@@ -48,7 +48,7 @@ impl Writer<'_> {
     pub fn write(&mut self, item: Record<'_>) -> Result<(), Refusal>
         ensures value { result ≡ admitting (room self.old.words.now) self.old.used self.old.closed (contents (told item.entry)) }
         ensures words { self.new.words.now ≡ (if is_ok result then over self.old.words.now self.old.used (spelled (told item.entry)) else self.old.words.now) }
-        ensures used { self.new.used ≡ cond (is_ok result) (self.old.used + length (contents (told item.entry))) self.old.used }
+        ensures used { self.new.used ≡ (if is_ok result then (self.old.used + length (contents (told item.entry))) else self.old.used) }
         ensures closed { self.new.closed ≡ self.old.closed }
         ensures name { self.new.words.ghost_name ≡ self.old.words.ghost_name }
     {
@@ -62,7 +62,7 @@ impl Writer<'_> {
     pub fn close(&mut self) -> Result<(), Refusal>
         ensures value { result ≡ closing (room self.old.words.now) self.old.used self.old.closed }
         ensures words { self.new.words.now ≡ (if is_ok result then over self.old.words.now self.old.used (word 3 (scan_count (take self.old.used self.old.words.now)) ∷ []) else self.old.words.now) }
-        ensures used { self.new.used ≡ cond (is_ok result) (self.old.used + 1) self.old.used }
+        ensures used { self.new.used ≡ (if is_ok result then (self.old.used + 1) else self.old.used) }
         ensures closed { self.new.closed ≡ (if is_ok result then true else self.old.closed) }
         ensures name { self.new.words.ghost_name ≡ self.old.words.ghost_name }
         ensures back { OnOk result (Completed (take self.old.used self.old.words.now) self.new.used self.new.words.now) }

@@ -1,4 +1,4 @@
-use Rattle.std.proofs.Common.{◌≡◌, ℕ, ◌+◌, ◌<◌, List, length, sym, ap, ◌∙◌, arith}
+use Rattle.std.proofs.Common.{◌≡◌, ℕ, ◌<◌, List, length, sym, ap, ◌∙◌, arith}
 use Rattle.source.specs.Scans.{Sample, inputs}
 use Rattle.rerun.specs.Runs.{at}
 use Rattle.rerun.proofs.Walking.{walks_on, at_run, inputs_length}

@@ -1,4 +1,4 @@
-use Rattle.std.proofs.Common.{◌≡◌, ◌*◌, ◌≤◌, length, drop, vec_items, vec_len, vec_capacity}
+use Rattle.std.proofs.Common.{◌≡◌, ◌*◌, ◌≤◌, drop, vec_items, vec_len, vec_capacity}
 use Rattle.source.specs.Scans.{first, inputs}
 use Rattle.rerun.specs.Runs.{at, told}
 use Rattle.rerun.proofs.replay_states.Given as goal

@@ -1,4 +1,4 @@
-use Rattle.std.proofs.Common.{◌≡◌, ℕ, ◌≤◌, List, length, replicate, arith}
+use Rattle.std.proofs.Common.{◌≡◌, ℕ, ◌≤◌, List, length, replicate}
 use Rattle.rerun.proofs.Telling.{saves, saves_length, saves_front}
 use Rattle.rerun.proofs.snapshot.Goals as goal
 

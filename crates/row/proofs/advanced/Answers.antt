@@ -1,4 +1,4 @@
-use Rattle.std.proofs.Common.{◌≡◌, false, length, get_or, arith, length-set}
+use Rattle.std.proofs.Common.{false, get_or, arith, length-set}
 use Rattle.row.specs.Cells.{bit, outcome, lower, higher}
 use Rattle.row.proofs.Stepping.{filled}
 use Rattle.row.proofs.advanced.Goals as goal

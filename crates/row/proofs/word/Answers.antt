@@ -1,4 +1,4 @@
-use Rattle.std.proofs.Common.{◌≡◌, ℕ, ◌+◌, ◌-◌, ◌*◌, ◌^◌, ◌<◌, Bool, true, false, List, get_or, sym, refl, ap, ◌∙◌, arith}
+use Rattle.std.proofs.Common.{◌≡◌, ℕ, ◌+◌, ◌-◌, ◌*◌, ◌^◌, ◌<◌, Bool, true, false, List, get_or, refl, ap, ◌∙◌, arith}
 use mir.Val.{bool_byte}
 use Rattle.row.specs.Cells.{bit, bits}
 use Rattle.row.specs.Laws.{bit_binary}

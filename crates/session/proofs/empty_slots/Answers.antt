@@ -1,4 +1,4 @@
-use Rattle.std.proofs.Common.{◌≡◌, ℕ, ◌+◌, ◌-◌, List, sym, refl, ap, ◌∙◌, arith}
+use Rattle.std.proofs.Common.{◌+◌, ◌-◌, List, sym, ap, ◌∙◌}
 use Rattle.store.specs.Slots.{Slot}
 use Rattle.viewer.specs.Model.{emptied}
 use Rattle.session.proofs.Loops.{emptied_more, emptied_none}

@@ -1,4 +1,4 @@
-use Rattle.std.proofs.Common.{◌≡◌, ℕ, ◌≤◌, List, length, replicate, sym, refl, ap, ◌∙◌, arith}
+use Rattle.std.proofs.Common.{◌≡◌, ℕ, ◌≤◌, List, length, replicate, ap, ◌∙◌}
 use borrow.Rule.Slice.PartMut.{same_len_mid}
 use Rattle.store.specs.Slots.{got}
 use Rattle.session.proofs.Buffers.{mid_length, front_is, mid_zeros}

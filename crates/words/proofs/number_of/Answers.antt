@@ -1,4 +1,4 @@
-use Rattle.std.proofs.Common.{◌≡◌, get_or, sym, ◌∙◌, arith}
+use Rattle.std.proofs.Common.{get_or, sym, ◌∙◌, arith}
 use Rattle.std.proofs.lemmas.List.{at_drop_all}
 use Rattle.words.specs.Hexadecimal.{digits}
 use Rattle.words.proofs.Numbers.{digit_small, digits_more, digits_stop, room, room_more}

@@ -1,4 +1,4 @@
-use Rattle.std.proofs.Common.{◌≡◌, ◌-◌, ◌≤◌, [], length, take, drop, vec_items, vec_len}
+use Rattle.std.proofs.Common.{◌≡◌, ◌-◌, ◌≤◌, [], take, drop, vec_items, vec_len}
 use Rattle.words.specs.Hexadecimal.{read_from}
 use Rattle.words.proofs.read_words.Given as goal
 

@@ -1,6 +1,4 @@
-use Rattle.std.proofs.Common.{false, length, replicate, refl, ap}
-use lib.ListN.{get_or-replicate}
-use Rattle.copies.specs.Copying.{slot_of, count}
+use Rattle.std.proofs.Common.{refl}
 use Rattle.copies.proofs.Marks.{unmarked}
 use Rattle.copies.proofs.Copies.new.Goals as goal
 

@@ -1,4 +1,4 @@
-use Rattle.std.proofs.Common.{◌≡◌, ◌+◌, ◌-◌, ◌*◌, ◌<◌, ◌≤◌, true, false, length, get_or, take, drop, sym, refl, ap, ◌∙◌, arith, rules}
+use Rattle.std.proofs.Common.{◌≡◌, ◌+◌, ◌-◌, ◌*◌, ◌<◌, ◌≤◌, true, false, length, get_or, take, drop, ap, ◌∙◌, arith, rules}
 use Rattle.copies.specs.Copying.{count, count_few, copy, copy_end, slots_of}
 use Rattle.copies.proofs.Marks.{slots_count, marked_held, unmarked_empty}
 use Rattle.store.proofs.Refused.{no_get, wide_get, empty_get, good_get}

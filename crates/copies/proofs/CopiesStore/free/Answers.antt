@@ -1,5 +1,5 @@
-use Rattle.std.proofs.Common.{◌≡◌, ◌+◌, ◌-◌, ◌*◌, ◌<◌, ◌≤◌, true, false, length, get_or, sym, refl, ap, ◌∙◌, arith, rules}
-use Rattle.copies.specs.Copying.{count, count_few, copy, copy_end, slots_of}
+use Rattle.std.proofs.Common.{◌≡◌, ◌<◌, ◌≤◌, true, false, length, get_or, refl, arith}
+use Rattle.copies.specs.Copying.{count, count_few, copy, slots_of}
 use Rattle.copies.proofs.Marks.{slots_count, marked_held, unmarked_empty, cleared}
 use Rattle.store.proofs.Refused.{no_free, empty_free, good_free}
 use Rattle.copies.proofs.CopiesStore.free.Goals as goal

@@ -1,6 +1,6 @@
-use Rattle.std.proofs.Common.{◌≡◌, ◌+◌, ◌-◌, ◌*◌, ◌<◌, ◌≤◌, true, false, length, get_or, drop, sym, refl, ap, ◌∙◌, arith, rules}
+use Rattle.std.proofs.Common.{◌≡◌, ◌+◌, ◌-◌, ◌*◌, ◌<◌, ◌≤◌, length, drop, refl, ap, ◌∙◌, arith, rules}
 use borrow.Rule.Slice.PartMut.{put_mid}
-use Rattle.copies.specs.Copying.{count, count_few, copy, copy_end, slots_of}
+use Rattle.copies.specs.Copying.{count, count_few, copy_end, slots_of}
 use Rattle.copies.proofs.Marks.{slots_count, written, behind, same_length}
 use Rattle.store.proofs.Refused.{no_put, wide_put, good_put}
 use Rattle.copies.proofs.CopiesStore.put.Goals as goal

@@ -1,4 +1,4 @@
-use Rattle.std.proofs.Common.{◌≡◌, ◌*◌, ◌<◌, ◌≤◌, length, sym, refl, ap, ◌∙◌, arith}
+use Rattle.std.proofs.Common.{◌≡◌, ◌*◌, ◌<◌, length, sym, ap, ◌∙◌, arith}
 use Rattle.store.specs.Counting.{numbered}
 use Rattle.paging.specs.Layout.{pages_in, count, roomy}
 use Rattle.paging.specs.Pages.{slot_of, pages_of, different}

@@ -1,8 +1,7 @@
-use Rattle.std.proofs.Common.{◌≡◌, ◌+◌, ◌-◌, ◌*◌, ◌/◌, ◌%◌, ◌<◌, ◌≤◌, map, length, get_or, sym, refl, ap, ◌∙◌, subst, arith}
+use Rattle.std.proofs.Common.{◌≡◌, ◌+◌, ◌*◌, ◌/◌, ◌%◌, ◌<◌, ◌≤◌, map, length, get_or, sym, ap, ◌∙◌, arith}
 use Rattle.std.specs.List.{range_with_len}
-use Rattle.paging.specs.Layout.{count, pages_in, roomy, whole}
+use Rattle.paging.specs.Layout.{count, pages_in, roomy}
 use Rattle.paging.specs.Pages.{at, slots_of, shot, noted}
-use Rattle.paging.specs.Steps.{Laid, Released}
 use Rattle.paging.proofs.Rows.{slots_count, row_fits, first_noted, slot_held, slot_empty}
 use Rattle.store.proofs.Refused.{no_get, wide_get, empty_get, good_get}
 use Rattle.pages.proofs.Pages.read.Goals as goal

@@ -1,7 +1,7 @@
-use Rattle.std.proofs.Common.{◌≡◌, ◌+◌, ◌-◌, ◌*◌, ◌<◌, ◌≤◌, length, get_or, sym, refl, ap, ◌∙◌, subst, arith}
-use Rattle.paging.specs.Layout.{count, pages_in, roomy, whole}
+use Rattle.std.proofs.Common.{◌≡◌, ◌*◌, ◌<◌, ◌≤◌, length, get_or, sym, refl, ap, ◌∙◌, subst, arith}
+use Rattle.paging.specs.Layout.{count, pages_in, roomy}
 use Rattle.paging.specs.Pages.{slots_of, shot, noted}
-use Rattle.paging.specs.Steps.{Laid, Released}
+use Rattle.paging.specs.Steps.{Released}
 use Rattle.paging.proofs.Rows.{slots_count, row_fits, first_noted, slot_held, slot_empty, released_slots, released_tidy}
 use Rattle.store.proofs.Refused.{no_free, empty_free, good_free}
 use Rattle.pages.proofs.PagesStore.free.Goals as goal

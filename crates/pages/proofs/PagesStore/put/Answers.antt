@@ -1,8 +1,8 @@
-use Rattle.std.proofs.Common.{◌≡◌, ◌+◌, ◌-◌, ◌*◌, ◌<◌, ◌≤◌, length, get_or, drop, sym, refl, ap, ◌∙◌, subst, arith}
+use Rattle.std.proofs.Common.{◌≡◌, ◌*◌, ◌<◌, ◌≤◌, length, drop, refl, ap, ◌∙◌, subst, arith}
 use Rattle.paging.specs.Layout.{count, pages_in, roomy, whole}
-use Rattle.paging.specs.Pages.{slots_of, shot, noted}
-use Rattle.paging.specs.Steps.{Laid, Released}
-use Rattle.paging.proofs.Rows.{slots_count, row_fits, first_noted, laid_slots, laid_tidy, laid_spared, behind_drop}
+use Rattle.paging.specs.Pages.{slots_of}
+use Rattle.paging.specs.Steps.{Laid}
+use Rattle.paging.proofs.Rows.{slots_count, row_fits, laid_slots, laid_tidy, laid_spared, behind_drop}
 use Rattle.store.proofs.Refused.{no_put, wide_put, good_put}
 use Rattle.pages.proofs.PagesStore.put.Goals as goal
 

@@ -1,9 +1,7 @@
-use Rattle.std.proofs.Common.{◌≡◌, ◌+◌, ◌*◌, ◌<◌, ◌≤◌, true, false, cond, ◌||◌, [], ◌∷◌, ◌++◌, length, get_or, drop, sym, refl, ap, ◌∙◌, arith}
+use Rattle.std.proofs.Common.{◌≡◌, ◌*◌, [], get_or, sym, ap, ◌∙◌}
 use Rattle.std.proofs.lemmas.List.{append-nil}
-use Rattle.store.proofs.Counted.{row_before}
-use Rattle.store.specs.Counting.{numbered}
 use Rattle.paging.specs.Layout.{pages_in}
-use Rattle.paging.specs.Pages.{noted, row, shot, slot_of, page, cut, pages_of, same, among, different}
+use Rattle.paging.specs.Pages.{noted, row, page, cut, among}
 use Rattle.paging.proofs.Rows.{first_noted}
 use Rattle.paging.proofs.Different.{slot_some}
 use Rattle.pages.proofs.counting.among_slot.Goals as goal

@@ -1,10 +1,6 @@
-use Rattle.std.proofs.Common.{◌≡◌, ◌+◌, ◌*◌, ◌<◌, ◌≤◌, true, false, cond, ◌||◌, [], ◌∷◌, ◌++◌, length, get_or, drop, sym, refl, ap, ◌∙◌, arith}
-use Rattle.std.proofs.lemmas.List.{append-nil}
-use Rattle.store.proofs.Counted.{row_before}
-use Rattle.store.specs.Counting.{numbered}
+use Rattle.std.proofs.Common.{ap, arith}
 use Rattle.paging.specs.Layout.{pages_in}
-use Rattle.paging.specs.Pages.{noted, row, shot, slot_of, page, cut, pages_of, same, among, different}
-use Rattle.paging.proofs.Rows.{first_noted}
+use Rattle.paging.specs.Pages.{slot_of, pages_of, different}
 use Rattle.paging.proofs.Different.{slots_end}
 use Rattle.pages.proofs.counting.count_used.Goals as goal
 

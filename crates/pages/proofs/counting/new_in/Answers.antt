@@ -1,9 +1,8 @@
-use Rattle.std.proofs.Common.{◌≡◌, ◌+◌, ◌*◌, ◌<◌, ◌≤◌, true, false, cond, ◌||◌, [], ◌∷◌, ◌++◌, length, get_or, drop, sym, refl, ap, ◌∙◌, arith}
-use Rattle.std.proofs.lemmas.List.{append-nil}
+use Rattle.std.proofs.Common.{◌≡◌, ◌+◌, ◌*◌, cond, ◌++◌, get_or, drop, sym, ap, ◌∙◌, arith}
 use Rattle.store.proofs.Counted.{row_before}
 use Rattle.store.specs.Counting.{numbered}
 use Rattle.paging.specs.Layout.{pages_in}
-use Rattle.paging.specs.Pages.{noted, row, shot, slot_of, page, cut, pages_of, same, among, different}
+use Rattle.paging.specs.Pages.{noted, row, slot_of, page, cut, pages_of, among, different}
 use Rattle.paging.proofs.Rows.{first_noted}
 use Rattle.paging.proofs.Different.{page_step, slots_step, slot_none, slot_some, row_end}
 use Rattle.pages.proofs.counting.new_in.Goals as goal

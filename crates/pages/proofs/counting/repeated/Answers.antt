@@ -1,10 +1,8 @@
-use Rattle.std.proofs.Common.{◌≡◌, ◌+◌, ◌*◌, ◌<◌, ◌≤◌, true, false, cond, ◌||◌, [], ◌∷◌, ◌++◌, length, get_or, drop, sym, refl, ap, ◌∙◌, arith}
-use Rattle.std.proofs.lemmas.List.{append-nil}
+use Rattle.std.proofs.Common.{◌≡◌, ◌+◌, ◌*◌, ◌||◌, drop, sym, ap, ◌∙◌, arith}
 use Rattle.store.proofs.Counted.{row_before}
 use Rattle.store.specs.Counting.{numbered}
 use Rattle.paging.specs.Layout.{pages_in}
-use Rattle.paging.specs.Pages.{noted, row, shot, slot_of, page, cut, pages_of, same, among, different}
-use Rattle.paging.proofs.Rows.{first_noted}
+use Rattle.paging.specs.Pages.{row, slot_of, page, cut, pages_of, among}
 use Rattle.paging.proofs.Different.{among_append}
 use Rattle.pages.proofs.counting.repeated.Goals as goal
 

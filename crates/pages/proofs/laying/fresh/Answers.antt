@@ -1,4 +1,4 @@
-use Rattle.std.proofs.Common.{◌≡◌, ℕ, ◌+◌, ◌<◌, get_or, arith, below_more}
+use Rattle.std.proofs.Common.{arith, below_more}
 use Rattle.paging.proofs.Pigeons.{gap}
 use Rattle.pages.proofs.laying.fresh.Goals as goal
 

@@ -1,4 +1,4 @@
-use Rattle.std.proofs.Common.{◌≡◌, ◌+◌, ◌<◌, ◌≤◌, length, sym, ap, ◌∙◌, subst, arith}
+use Rattle.std.proofs.Common.{◌≡◌, ◌+◌, subst, arith}
 use Rattle.paging.proofs.Laying.{laid_start, laid_more, laid_from}
 use Rattle.paging.specs.Steps.{Laid}
 use Rattle.pages.proofs.laying.lay.Goals as goal

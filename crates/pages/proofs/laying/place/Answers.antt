@@ -1,4 +1,4 @@
-use Rattle.std.proofs.Common.{◌≤◌, length, arith}
+use Rattle.std.proofs.Common.{◌≤◌, arith}
 use Rattle.paging.proofs.Placing.{placed_known, placed_fresh}
 use Rattle.pages.proofs.laying.place.Goals as goal
 

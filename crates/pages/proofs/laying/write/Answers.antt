@@ -1,4 +1,4 @@
-use Rattle.std.proofs.Common.{◌≡◌, ◌+◌, ◌-◌, ◌*◌, ◌<◌, ◌≤◌, length, sym, ap, ◌∙◌, subst, arith}
+use Rattle.std.proofs.Common.{◌≡◌, ◌+◌, ◌-◌, ◌*◌, sym, subst, arith}
 use borrow.Rule.Slice.PartMut.{put_mid}
 use Rattle.paging.proofs.Words.{wrote}
 use Rattle.paging.specs.Steps.{Wrote}

@@ -1,5 +1,4 @@
-use Rattle.std.proofs.Common.{◌≡◌, ℕ, ◌^◌, ◌<◌, Bool, true, List, length, get_or, Ok, sym, refl, ap, ◌∙◌, mod-lt, arith}
-use Rattle.machine.specs.Machines.{loading, loaded}
+use Rattle.std.proofs.Common.{◌≡◌, true, refl, ap, ◌∙◌, mod-lt, arith}
 use Rattle.row.specs.Cells.{lawful, cell, next}
 use Rattle.row.proofs.Stepping.{load_packed, bit_test, words_lawful, filled, loads, loads_to}
 use Rattle.row.proofs.RowMachine.load.Goals as goal

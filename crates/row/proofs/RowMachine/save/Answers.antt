@@ -1,5 +1,5 @@
-use Rattle.std.proofs.Common.{◌≡◌, eqb, length, sym, refl, ap, ◌∙◌, arith}
-use Rattle.row.specs.Cells.{words, packed}
+use Rattle.std.proofs.Common.{refl, arith}
+use Rattle.row.specs.Cells.{words}
 use Rattle.row.proofs.RowMachine.save.Goals as goal
 
 pub returns : goal.returns

@@ -1,6 +1,4 @@
-use Rattle.std.proofs.Common.{◌≡◌, sym, refl, ap, ◌∙◌, arith}
-use Rattle.session.specs.Sessions.{frame, here}
-use Rattle.viewer.specs.Model.{Frame, Now, climbed}
+use Rattle.std.proofs.Common.{sym, ◌∙◌, arith}
 use Rattle.session.proofs.Loops.{climbed_done, climbed_none, turn_on, turn_off, turn_one}
 use Rattle.session.proofs.Session.climb.Goals as goal
 

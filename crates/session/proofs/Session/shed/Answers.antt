@@ -1,5 +1,5 @@
 use Rattle.std.proofs.Common.{◌≡◌, ℕ, ◌+◌, ◌-◌, sym, refl, ap, ◌∙◌, arith}
-use Rattle.session.specs.Sessions.{frame, here}
+use Rattle.session.specs.Sessions.{here}
 use Rattle.viewer.specs.Model.{Now, shed}
 use Rattle.session.proofs.Loops.{shed_more, shed_none}
 use Rattle.session.proofs.Session.shed.Goals as goal

@@ -1,4 +1,4 @@
-use Rattle.std.proofs.Common.{◌≡◌, ℕ, ◌<◌, ◌≤◌, List, length, get_or, sym, refl, ap, ◌∙◌, arith}
+use Rattle.std.proofs.Common.{◌≡◌, ℕ, List, length, sym, arith}
 use Rattle.machine.specs.Counters.{under}
 use Rattle.session.proofs.Buffers.{past_end, front_at}
 use Rattle.session.proofs.Session.word.Goals as goal

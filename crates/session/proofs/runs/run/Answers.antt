@@ -1,4 +1,4 @@
-use Rattle.std.proofs.Common.{◌≡◌, sym, refl, ap, ◌∙◌, arith}
+use Rattle.std.proofs.Common.{refl, ◌∙◌, arith}
 use Rattle.session.specs.Sessions.{closed, frame, frame_of, given}
 use Rattle.viewer.specs.declared.Call.TheVariants.{Open}
 use Rattle.viewer.proofs.Kept.{promise_kept}

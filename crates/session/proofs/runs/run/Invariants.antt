@@ -1,5 +1,5 @@
-use Rattle.std.proofs.Common.{◌≡◌, ◌+◌, ◌≤◌, ◌++◌, length, drop, vec_items, vec_len, vec_capacity}
-use Rattle.session.specs.Sessions.{closed, frame, frame_of, here}
+use Rattle.std.proofs.Common.{◌≡◌, ◌≤◌, ◌++◌, length, drop, vec_items, vec_len, vec_capacity}
+use Rattle.session.specs.Sessions.{frame, here}
 use Rattle.viewer.specs.Model.{ran, said}
 use Rattle.session.proofs.runs.run.Given as goal
 

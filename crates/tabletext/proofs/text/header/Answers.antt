@@ -1,6 +1,5 @@
-use Rattle.std.proofs.Common.{◌≡◌, ◌+◌, ◌-◌, ◌≤◌, length, take, drop, sym, refl, ap, ◌∙◌, arith}
+use Rattle.std.proofs.Common.{◌+◌, ◌-◌, take, drop, sym, refl, ◌∙◌, arith}
 use Rattle.tabletext.proofs.Tables.{table_step, opened_other, table_end}
-use Rattle.tabletext.specs.Grammar.{line_of}
 use Rattle.tabletext.specs.Texts.{lines_of, table_of}
 use Rattle.tabletext.specs.declared.line.Line.TheVariants.{Blank, States}
 use Rattle.tabletext.proofs.text.header.Goals as goal

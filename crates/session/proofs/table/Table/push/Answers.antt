@@ -1,5 +1,5 @@
-use Rattle.std.proofs.Common.{arith, rules}
-use Rattle.session.proofs.Heads.{push_take, full_take}
+use Rattle.std.proofs.Common.{arith}
+use Rattle.session.proofs.Heads.{push_take}
 use Rattle.session.proofs.table.Table.push.Goals as goal
 
 pub returns-then-self-lt32 : goal.returns-then-self-lt32

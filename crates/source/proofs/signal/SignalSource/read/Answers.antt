@@ -1,4 +1,4 @@
-use Rattle.std.proofs.Common.{◌≡◌, sym, ap, ◌∙◌, arith}
+use Rattle.std.proofs.Common.{sym, arith}
 use Rattle.source.proofs.Waves.{from_past, from_within, from_last, wave_wraps}
 use Rattle.source.proofs.signal.SignalSource.read.Goals as goal
 

@@ -1,4 +1,3 @@
-use Rattle.std.proofs.Common.{◌≡◌, sym, refl, ap, ◌∙◌}
 use Rattle.store.proofs.Paired.{both_lengths}
 use Rattle.store.proofs.pair.PairStore.capacity.Goals as goal
 

@@ -1,4 +1,4 @@
-use Rattle.std.proofs.Common.{◌≡◌, ◌<◌, ◌≤◌, length, sym, refl, ap, ◌∙◌, arith}
+use Rattle.std.proofs.Common.{◌<◌, ◌≤◌, length, refl, arith}
 use Rattle.store.proofs.Refused.{no_free}
 use Rattle.store.proofs.Paired.{free_first, free_second}
 use Rattle.store.specs.Pairs.{paired}

@@ -15,7 +15,7 @@ pub invariant_of-self : goal.invariant_of-self
 invariant_of-self c =
     let s = c.args.self.now in
     let P : List ℕ → Type 0 = λ x. lawful s.count x ≡ true in
-    (s.places, (s.few, (s.good, (c.mark.array_long, (subst P (sym (after (goal.at.invariant_of-self c).After-mark)) (marked_lawful s.count c.args.cell c.args.symbol s.memory s.few (omega arith) s.law), tt)))))
+    record { places = s.places; few = s.few; good = s.good; long = c.mark.array_long; law = subst P (sym (after (goal.at.invariant_of-self c).After-mark)) (marked_lawful s.count c.args.cell c.args.symbol s.memory s.few (omega arith) s.law) }
 
 pub returns : goal.returns
 returns c = record { value = search rules; after = after (goal.at.returns c).After-mark; same = refl; count = refl }

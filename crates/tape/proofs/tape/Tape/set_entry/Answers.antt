@@ -1,4 +1,4 @@
-use Rattle.std.proofs.Common.{◌+◌, ◌*◌, [], ◌∷◌, Some, sym, refl, ap, ◌∙◌, length-set}
+use Rattle.std.proofs.Common.{◌+◌, ◌*◌, Some, sym, refl, ◌∙◌, length-set}
 use Rattle.tape.proofs.Settings.{sound_set, one_found}
 use Rattle.tape.proofs.tape.Tape.set_entry.Goals as goal
 
@@ -6,7 +6,7 @@ pub invariant_of-self : goal.invariant_of-self
 invariant_of-self c =
     let s = c.args.self.now in
     let e = c.args.entry in
-    (length-set s.entries (4 * e.control + e.read) (Some e) ∙ s.places, (s.few, (sound_set s.count s.entries (4 * e.control + e.read) e (sym c.judge.ensures ∙ c.in_ok-judge.was) s.good, (s.long, (s.law, tt)))))
+    record { places = length-set s.entries (4 * e.control + e.read) (Some e) ∙ s.places; few = s.few; good = sound_set s.count s.entries (4 * e.control + e.read) e (sym c.judge.ensures ∙ c.in_ok-judge.was) s.good; long = s.long; law = s.law }
 
 pub returns : goal.returns
 returns c =

@@ -1,8 +1,7 @@
-use Rattle.std.proofs.Common.{◌≡◌, List, Option, sym, refl, ap, ◌∙◌}
+use Rattle.std.proofs.Common.{sym, refl, ap, ◌∙◌}
 use Rattle.tape.proofs.Settings.{built_ok, all_found}
 use Rattle.tape.specs.Tables.{empty, tabling, filled}
 use Rattle.tape.specs.Turing.{found}
-use Rattle.tape.specs.declared.entry.Entry.{Entry}
 use Rattle.tape.proofs.tape.Tape.set_table.Goals as goal
 
 pub returns : goal.returns

@@ -1,4 +1,4 @@
-use Rattle.std.proofs.Common.{◌+◌, ◌/◌, ◌%◌, get_or, arith, rules}
+use Rattle.std.proofs.Common.{◌+◌, ◌/◌, ◌%◌, get_or, arith}
 use Rattle.tape.proofs.Marks.{sub_fits, replaced, replaced_fits, mark_is, words_set}
 use Rattle.tape.proofs.tape.memory.mark.Goals as goal
 

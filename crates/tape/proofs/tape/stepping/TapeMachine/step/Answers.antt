@@ -1,13 +1,13 @@
-use Rattle.std.proofs.Common.{◌≡◌, ℕ, ◌+◌, ◌*◌, ◌<◌, true, List, length, get_or, sym, refl, ap, ◌∙◌, subst, arith, w32, Fits}
+use Rattle.std.proofs.Common.{◌≡◌, ℕ, ◌+◌, ◌*◌, ◌<◌, true, List, length, get_or, sym, refl, subst, arith}
 use Rattle.machine.specs.Machines.{Words}
 use Rattle.tape.proofs.Steps.{known_below, small_at, fed_holds, scan_rest, scan_acts, next_is, scan_local, scan_near, scan_resting}
-use Rattle.tape.specs.Laws.{Good, parts, goes_by}
+use Rattle.tape.specs.Laws.{parts, goes_by}
 use Rattle.tape.specs.Layout.{configuration, lawful}
 use Rattle.tape.specs.Locality.{Local, Near, Resting}
 use Rattle.tape.specs.Tapes.{next}
 use Rattle.tape.specs.Turing.{Configuration, scan}
-use Rattle.tape.proofs.tape.machine.TapeMachine.step.Goals as goal
-use Rattle.tape.proofs.tape.machine.TapeMachine.step.Goals.{Joined-words-ne-REST, then-words-ne-REST, else-words-ne-REST}
+use Rattle.tape.proofs.tape.stepping.TapeMachine.step.Goals as goal
+use Rattle.tape.proofs.tape.stepping.TapeMachine.step.Goals.{Joined-words-ne-REST, then-words-ne-REST, else-words-ne-REST}
 
 pub overflow_add-entry : goal.overflow_add-entry
 overflow_add-entry c =
@@ -59,7 +59,7 @@ pub invariant_of-self : goal.invariant_of-self
 invariant_of-self c =
     let s = c.args.self.now in
     let P : List ℕ → Type 0 = λ x. lawful s.count x ≡ true in
-    (s.places, (s.few, (s.good, ((ends c).1, (subst P (sym (after c)) (goes_by s.count s.entries s.few s.good s.memory c.args.input s.law), tt)))))
+    record { places = s.places; few = s.few; good = s.good; long = (ends c).1; law = subst P (sym (after c)) (goes_by s.count s.entries s.few s.good s.memory c.args.input s.law) }
 
 pub returns : goal.returns
 returns c =
