@@ -1,7 +1,7 @@
 // A store of full copies: snapshots one after another in lent words.
 #![tactic(auto)]
 
-ghost use Rattle.std.specs.Prelude.{◌≡◌, ℕ, ◌*◌, ◌<◌, ◌≤◌, true, false, List, length, replicate, ◌≢◌, slice_index_or};
+ghost use Rattle.std.specs.Prelude.{◌≡◌, ℕ, ◌<◌, false, length, replicate, ◌≢◌, slice_index_or};
 ghost use Rattle.copies.specs.Copying.{checking, count as fitting, slots_few, slots_sized};
 ghost use Rattle.copies.specs.Stored.{width_of, words_of, rest_of, stored_slots};
 ghost use Rattle.store.specs.Slots.{empty, putting, puts, getting, got, freeing, frees};

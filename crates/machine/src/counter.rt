@@ -1,7 +1,7 @@
 // A layer over any machine that tells the steps made.
 ghost use Rattle.machine.specs.Counters.{told, under};
-ghost use Rattle.machine.specs.Machines.{counted, saving, saved, loading, loaded};
-ghost use Rattle.std.specs.Prelude.{◌≡◌, length};
+ghost use Rattle.machine.specs.Machines.{counted, loading, loaded};
+ghost use Rattle.std.specs.Prelude.{◌≡◌};
 
 use crate::Machine;
 use terms::Refusal;

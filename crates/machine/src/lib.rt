@@ -3,7 +3,7 @@
 
 mod counter;
 
-ghost use Rattle.std.specs.Prelude.{◌≡◌, ℕ, ◌%◌, ◌^◌, ◌≤◌, Bool, true, List, length};
+ghost use Rattle.std.specs.Prelude.{◌≡◌, ℕ, ◌≤◌, Bool, true, List, length};
 ghost use Rattle.machine.specs.Machines.{Words, read, saving, saved, loading, loaded};
 
 pub use counter::Counter;

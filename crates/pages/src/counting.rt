@@ -1,5 +1,5 @@
 // The different pages among the held snapshots. A page is new where no later page has its words.
-ghost use Rattle.std.specs.Prelude.{◌≡◌, ℕ, ◌+◌, ◌-◌, ◌*◌, ◌/◌, ◌<◌, ◌≤◌, true, false, [], ◌∷◌, ◌++◌, length, drop, if◌then◌else◌, slice_index};
+ghost use Rattle.std.specs.Prelude.{◌≡◌, ◌+◌, ◌*◌, ◌<◌, ◌≤◌, [], ◌∷◌, ◌++◌, drop, if◌then◌else◌, slice_index};
 ghost use Rattle.paging.specs.Layout.{pages_in};
 ghost use Rattle.paging.specs.Pages.{row, slot_of, page, cut as pagesCut, pages_of, same as samePages, among, different};
 ghost use Rattle.store.specs.Counting.{numbered};

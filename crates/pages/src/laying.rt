@@ -1,5 +1,5 @@
 // Pages of four words in a pool, named by the numbers in a table: k + 1 names page k, 0 no page.
-ghost use Rattle.std.specs.Prelude.{◌≡◌, ℕ, ◌+◌, ◌-◌, ◌*◌, ◌/◌, ◌<◌, ◌≤◌, true, false, length, ◌≢◌, slice_index};
+ghost use Rattle.std.specs.Prelude.{◌≡◌, ℕ, ◌+◌, ◌*◌, ◌<◌, ◌≤◌, true, false, length, ◌≢◌, slice_index};
 ghost use Rattle.paging.specs.Layout.{pages_in, whole};
 ghost use Rattle.paging.specs.Pages.{at as word_at};
 ghost use Rattle.paging.specs.Steps.{Holds, Wrote, Placed, Released, Laid};

@@ -4,7 +4,7 @@
 mod counting;
 mod laying;
 
-ghost use Rattle.std.specs.Prelude.{◌≡◌, ℕ, ◌+◌, ◌-◌, ◌*◌, ◌/◌, ◌%◌, ◌<◌, ◌≤◌, map, length, replicate, slice_index};
+ghost use Rattle.std.specs.Prelude.{◌≡◌, ◌+◌, ◌-◌, ◌/◌, ◌%◌, ◌≤◌, map, length, replicate, slice_index};
 ghost use Rattle.paging.specs.Layout.{pages_in, whole, checking, count as fitting};
 ghost use Rattle.paging.specs.Pages.{at as word_at, slots_few, slots_sized};
 ghost use Rattle.pages.specs.Stored.{width_of, pool_of, rest_of, stored_slots, TidyOf, SparedBy, used_of};

@@ -1,5 +1,5 @@
 // Looking ahead in a recording: for the next scan or mark, the next scan, and the end of a mark's more words.
-ghost use Rattle.std.specs.Prelude.{◌≡◌, ◌-◌, ◌<◌, ◌≤◌, true, ◌||◌, length, drop, slice_index, slice_range};
+ghost use Rattle.std.specs.Prelude.{◌≡◌, ◌<◌, ◌≤◌, true, ◌||◌, length, drop, slice_index, slice_range};
 ghost use Rattle.recording.specs.Format.{is_more, is_scan, is_mark, items_from, mores, samples_from};
 ghost use Rattle.source.specs.Scans.{first};
 

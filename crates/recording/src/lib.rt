@@ -9,7 +9,6 @@ mod reading;
 ghost use Rattle.std.specs.Prelude.{◌≡◌, ◌≤◌, true, [], length, is_ok, if◌then◌else◌};
 ghost use Rattle.recording.specs.Format.{checked, samples};
 
-use source::Source;
 use terms::Place;
 
 // A reader over the caller's words. It stands for no scans until its check has taken them.

@@ -1,7 +1,7 @@
 // Numbers and keywords of a line.
 ghost use Rattle.recordtext.specs.Lines.{blank, all_blank, digit, grown, numbers, begins, Numbers};
 ghost use Rattle.recordtext.specs.declared.Fault.TheVariants.{NoMemory};
-ghost use Rattle.std.specs.Prelude.{◌≡◌, ◌++◌, Some, None, MatchResult};
+ghost use Rattle.std.specs.Prelude.{◌≡◌, ◌++◌, None, MatchResult};
 ghost use Rattle.std.specs.Option.{option_to_list};
 
 use crate::Fault;

@@ -11,7 +11,6 @@ use print::{print_items, print_total};
 use recording::Reader;
 use rerun::replay_states;
 use row::Row;
-use source::Source;
 use std::process::ExitCode;
 use std::{env, fs};
 use tabletext::read_tape;

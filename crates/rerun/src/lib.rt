@@ -1,7 +1,7 @@
 // A whole source run through a machine, with or without telling the state after each scan.
 #![tactic(auto)]
 
-ghost use Rattle.std.specs.Prelude.{◌≡◌, ℕ, ◌+◌, ◌*◌, ◌≤◌, ◌++◌, length, take, vec_len, vec_capacity, MatchResult};
+ghost use Rattle.std.specs.Prelude.{◌≡◌, ◌+◌, ◌≤◌, ◌++◌, length, take, vec_len, vec_capacity, MatchResult};
 ghost use Rattle.machine.specs.Machines.{run};
 ghost use Rattle.rerun.specs.Runs.{at, told, scan_at};
 ghost use Rattle.source.specs.Scans.{inputs};

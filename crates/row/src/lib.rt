@@ -3,7 +3,6 @@
 
 ghost use Rattle.std.specs.Prelude.{◌≡◌, ℕ, ◌*◌, ◌<◌, ◌≤◌, false, length, replicate, MatchResult, slice_index_or};
 ghost use Rattle.std.proofs.Common.{arith};
-ghost use Rattle.machine.specs.Machines.{Words};
 ghost use Rattle.row.specs.Cells.{bit, bits, cell, given, higher, lawful, lower, next, outcome, packed, placed, setting, stepped, wide};
 ghost use Rattle.row.specs.Examples.{Lone};
 ghost use Rattle.row.specs.Laws.{lawful_sized, next_lawful, next_read, packed_lawful};

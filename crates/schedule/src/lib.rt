@@ -2,7 +2,7 @@
 // A number outside the limits is answered by none. The theorems of the walk stand on these functions.
 #![tactic(auto)]
 
-ghost use Rattle.std.specs.Prelude.{◌≡◌, ℕ, ◌-◌, ◌<◌, ◌≤◌};
+ghost use Rattle.std.specs.Prelude.{◌≡◌, ◌-◌, ◌≤◌};
 ghost use Rattle.checkpoints.specs.Binomials.{reach, before as earlier};
 ghost use Rattle.checkpoints.specs.Counts.{rounds as roundsAt};
 ghost use Rattle.checkpoints.specs.Theorems.{Binomial, Least, Inside, Price, Stays, Walk, Closed, Scheduled, Cheapest, Worked};

@@ -5,12 +5,11 @@ mod calls;
 mod runs;
 mod table;
 
-ghost use Rattle.machine.specs.Machines.{counted};
 ghost use Rattle.session.specs.Sessions.{closed, frame, frame_of, here};
 ghost use Rattle.store.specs.Slots.{got};
 ghost use Rattle.viewer.specs.Model.{climbed, dropped, emptied, finding, forward, opened, released, restored, returned, shed, snapped, sought, stepped, stride};
 ghost use Rattle.viewer.specs.Answers.{holds};
-ghost use Rattle.std.specs.Prelude.{◌≡◌, ◌-◌, ◌≤◌, [], length, take, replicate, slice_index};
+ghost use Rattle.std.specs.Prelude.{◌≡◌, ◌-◌, ◌≤◌, length, take, replicate, slice_index};
 ghost use Rattle.machine.specs.Counters.{under};
 
 use machine::{Counter, Machine};

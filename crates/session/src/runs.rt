@@ -1,5 +1,5 @@
 // A session made and run over a list of calls, with the whole promise.
-ghost use Rattle.std.specs.Prelude.{◌≡◌, ◌≤◌, length, MatchResult};
+ghost use Rattle.std.specs.Prelude.{◌≡◌, MatchResult};
 ghost use Rattle.session.specs.Sessions.{closed, frame, frame_of, given, here};
 ghost use Rattle.viewer.specs.Promises.{Promise};
 

@@ -1,6 +1,6 @@
 // Two stores as one, the slots of the first one first.
 ghost use Rattle.store.specs.Pairs.{pairing, paired, paired_few, paired_sized};
-ghost use Rattle.std.specs.Prelude.{◌≡◌, length};
+ghost use Rattle.std.specs.Prelude.{◌≡◌};
 
 use crate::Store;
 use terms::Refusal;

@@ -1,5 +1,5 @@
 // Lists of records, written whole or not at all.
-ghost use Rattle.std.specs.Prelude.{◌≡◌, ◌+◌, ◌≤◌, true, false, map, length, is_ok, IfOk, if◌then◌else◌};
+ghost use Rattle.std.specs.Prelude.{◌≡◌, ◌≤◌, true, false, map, length, is_ok, IfOk, if◌then◌else◌};
 ghost use Rattle.recording.specs.Records.{closed, AllFine};
 ghost use Rattle.writer.specs.Writing.{told, room, writing, over};
 ghost use Rattle.writer.specs.Trips.{ReadsBack};

@@ -1,5 +1,5 @@
 // Records to be written: whether they can be, and the writing of one.
-ghost use Rattle.std.specs.Prelude.{◌≡◌, ◌+◌, ◌-◌, ◌^◌, ◌<◌, ◌≤◌, min, true, false, [], ◌∷◌, length, take, nat_lt};
+ghost use Rattle.std.specs.Prelude.{◌≡◌, ◌+◌, ◌-◌, ◌^◌, ◌<◌, ◌≤◌, min, false, [], ◌∷◌, length, take, nat_lt};
 ghost use Rattle.recording.specs.Format.{word, is_scan, longest};
 ghost use Rattle.recording.specs.Records.{scan, mark, spelled};
 ghost use Rattle.writer.specs.Writing.{told, narrow, contents, admitting, scanning, marking, closing, scan_count, over};

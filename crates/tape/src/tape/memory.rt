@@ -3,7 +3,7 @@ ghost use Rattle.machine.specs.Machines.{Words};
 ghost use Rattle.tape.specs.Layout.{configuration};
 ghost use Rattle.tape.specs.Tables.{small};
 ghost use Rattle.tape.specs.Turing.{edge, marked, fed, acted};
-ghost use Rattle.std.specs.Prelude.{◌≡◌, ◌<◌, ◌≤◌, true, slice_index};
+ghost use Rattle.std.specs.Prelude.{◌≡◌, ◌<◌, true, slice_index};
 
 use crate::tape::WORDS;
 use crate::{Entry, Move};
