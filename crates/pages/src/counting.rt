@@ -1,7 +1,7 @@
 // The different pages among the held snapshots. A page is new where no later page has its words.
 ghost use Rattle.std.specs.Prelude.{◌≡◌, ◌+◌, ◌*◌, ◌<◌, ◌≤◌, [], ◌∷◌, ◌++◌, drop, if◌then◌else◌, slice_index};
 ghost use Rattle.paging.specs.Layout.{pages_in};
-ghost use Rattle.paging.specs.Pages.{row, slot_of, page, cut as pagesCut, pages_of, same as samePages, among, different};
+ghost use Rattle.paging.specs.Pages.{row, slot_of, page, cut as pages_cut, pages_of, same as same_pages, among, different};
 ghost use Rattle.store.specs.Counting.{numbered};
 
 use crate::laying::{PAGE, number_at, pages_in, peek};
@@ -28,7 +28,7 @@ fn equal(
     k: usize,
 ) -> bool
     requires { (width ≤ 32) × ((base + pages_in width ≤ 256) × ((other + pages_in width ≤ 256) × ((i < 8) × (k < 8)))) }
-    ensures { result ≡ samePages (page (row table.now pool.now width base) i) (page (row table.now pool.now width other) k) }
+    ensures { result ≡ same_pages (page (row table.now pool.now width base) i) (page (row table.now pool.now width other) k) }
 {
     for t in 0..PAGE {
         if word(table, pool, width, base, PAGE * i + t)
@@ -51,7 +51,7 @@ fn among_row(
     from: usize,
 ) -> bool
     requires { (width ≤ 32) × ((base + pages_in width ≤ 256) × ((other + pages_in width ≤ 256) × ((i < 8) × (from ≤ pages_in width)))) }
-    ensures { result ≡ among (page (row table.now pool.now width base) i) (drop from (pagesCut (pages_in width) (row table.now pool.now width other))) }
+    ensures { result ≡ among (page (row table.now pool.now width base) i) (drop from (pages_cut (pages_in width) (row table.now pool.now width other))) }
 {
     for k in from..pages_in(width) {
         if equal(table, pool, width, base, i, other, k) {
@@ -111,7 +111,7 @@ fn repeated(
     i: usize,
 ) -> bool
     requires { (1 ≤ width) × (width ≤ 32) × (slots * pages_in width ≤ 256) × (j < slots) × (i < pages_in width) }
-    ensures { result ≡ among (page (row table.now pool.now width (j * pages_in width)) i) (drop (i + 1) (pagesCut (pages_in width) (row table.now pool.now width (j * pages_in width))) ++ pages_of (pages_in width) (drop (j + 1) (numbered (slot_of table.now pool.now width) slots))) }
+    ensures { result ≡ among (page (row table.now pool.now width (j * pages_in width)) i) (drop (i + 1) (pages_cut (pages_in width) (row table.now pool.now width (j * pages_in width))) ++ pages_of (pages_in width) (drop (j + 1) (numbered (slot_of table.now pool.now width) slots))) }
 {
     let base = j * pages_in(width);
     if among_row(table, pool, width, base, i, base, i + 1) {

@@ -4,7 +4,7 @@
 
 ghost use Rattle.std.specs.Prelude.{◌≡◌, ◌-◌, ◌≤◌};
 ghost use Rattle.checkpoints.specs.Binomials.{reach, before as earlier};
-ghost use Rattle.checkpoints.specs.Counts.{rounds as roundsAt};
+ghost use Rattle.checkpoints.specs.Counts.{rounds as rounds_at};
 ghost use Rattle.checkpoints.specs.Theorems.{Binomial, Least, Inside, Price, Stays, Walk, Closed, Scheduled, Cheapest, Worked};
 ghost use Rattle.schedule.specs.Answers.{taken, parted, rounds_of, split_of, count_of};
 
@@ -39,10 +39,10 @@ struct Level {
 // Raises r until B(s, r) is no longer below l: B(s, r) = B(s, r − 1) × (s + r) / r.
 fn climb(l: u32, s: u32) -> Level
     requires { (2 ≤ s) × ((s ≤ 64) × (l ≤ 999999)) }
-    ensures rounds { result.rounds ≡ roundsAt l s }
-    ensures top { result.top ≡ reach s (roundsAt l s) }
-    ensures below { result.below ≡ earlier s (roundsAt l s) }
-    ensures under { result.under ≡ earlier s (roundsAt l s - 1) }
+    ensures rounds { result.rounds ≡ rounds_at l s }
+    ensures top { result.top ≡ reach s (rounds_at l s) }
+    ensures below { result.below ≡ earlier s (rounds_at l s) }
+    ensures under { result.under ≡ earlier s (rounds_at l s - 1) }
 {
     let mut r = 0;
     let mut top = 1;
@@ -65,10 +65,10 @@ fn climb(l: u32, s: u32) -> Level
 // The same for one slot too, where B(1, r) = r + 1.
 fn reached(l: u32, s: u32) -> Level
     requires { (1 ≤ s) × ((s ≤ 64) × (l ≤ 999999)) }
-    ensures rounds { result.rounds ≡ roundsAt l s }
-    ensures top { result.top ≡ reach s (roundsAt l s) }
-    ensures below { result.below ≡ earlier s (roundsAt l s) }
-    ensures under { result.under ≡ earlier s (roundsAt l s - 1) }
+    ensures rounds { result.rounds ≡ rounds_at l s }
+    ensures top { result.top ≡ reach s (rounds_at l s) }
+    ensures below { result.below ≡ earlier s (rounds_at l s) }
+    ensures under { result.under ≡ earlier s (rounds_at l s - 1) }
 {
     if s > 1 {
         return climb(l, s);

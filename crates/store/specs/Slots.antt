@@ -34,7 +34,7 @@ putting wide slots slot words =
     cond (nat_lt slot (length slots)) (cond (length words == wide) (Ok tt) (Err WrongWidth)) (Err NoSlot)
 
 -- the slots after a put: that slot holds the words, or all are as before where the put was refused
--- (a `set` where there is no such slot leaves the list)
+-- (a `slice_set` where there is no such slot leaves the list)
 abbrev pub puts : (wide : ℕ) (slots : List Slot) (slot : ℕ) (words : List ℕ) → List Slot
 puts wide slots slot words = cond (length words == wide) (slice_set slots slot (held words)) slots
 

@@ -7,7 +7,7 @@ ghost use Rattle.tape.specs.Tapes.{states, table, state};
 
 use crate::read::read_line;
 use crate::{BadLine, Line};
-use tape::{Entry, Tape};
+use tape::Tape;
 
 // A line of a text: the index behind its last byte, and the index of the next line.
 #[derive(Clone, Copy)]
