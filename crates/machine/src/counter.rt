@@ -6,7 +6,7 @@ ghost use Rattle.std.specs.Prelude.{◌≡◌};
 use crate::Machine;
 use terms::Refusal;
 
-// A machine with the count of its steps since it was made or last set to 0.
+/// A machine with the count of its steps since it was made or last set to 0.
 #[derive(Drop)]
 pub struct Counter<M> {
     machine: M,
@@ -17,7 +17,7 @@ pub struct Counter<M> {
 const CAP: u64 = 1_000_000_000_000_000_000;
 
 impl<M> Counter<M> {
-    // The machine under a counter at 0.
+    /// The machine under a counter at 0.
     pub fn new(machine: M) -> Self
         ensures machine { under result ≡ machine }
         ensures count { told result ≡ 0 }
@@ -25,14 +25,14 @@ impl<M> Counter<M> {
         Counter { machine, steps: 0 }
     }
 
-    // The steps made since the counter was made or last set to 0, up to the cap.
+    /// The steps made since the counter was made or last set to 0, up to the cap.
     pub fn count(&self) -> u64
         ensures { result ≡ told self.now }
     {
         self.steps
     }
 
-    // Sets the count to 0; the machine stays.
+    /// Sets the count to 0; the machine stays.
     pub fn reset(&mut self)
         ensures count { told self.new ≡ 0 }
         ensures same { under self.new ≡ under self.old }
@@ -40,7 +40,7 @@ impl<M> Counter<M> {
         self.steps = 0;
     }
 
-    // The machine, out of the layer.
+    /// The machine, out of the layer.
     pub fn into_machine(self) -> M
         ensures { result ≡ under self }
     {
@@ -52,32 +52,18 @@ impl<M> Counter<M> {
 impl<M: Machine> Machine for Counter<M> {
     const W: usize = M::W;
 
-    ghost wide = { M.Machine.wide };
+    ghost W = { M.W };
 
-    ghost broad = { M.Machine.broad };
+    ghost state = { λ c. M.state (under c) };
 
-    ghost state = { λ c. M.Machine.state (under c) };
+    ghost next = { λ c. M.next (under c) };
 
-    ghost next = { λ c. M.Machine.next (under c) };
-
-    ghost lawful = { λ c. M.Machine.lawful (under c) };
-
-    ghost present = { λ c. M.Machine.present (under c) };
-
-    ghost sized = { λ c. M.Machine.sized (under c) };
-
-    ghost goes = { λ c. M.Machine.goes (under c) };
-
-    ghost reads = { λ c. M.Machine.reads (under c) };
-
-    fn width() -> usize {
-        M::width()
-    }
+    ghost lawful = { λ c. M.lawful (under c) };
 
     fn step(&mut self, input: u32)
-        ensures moves { M.Machine.state (under self.new) ≡ M.Machine.next (under self.old) (M.Machine.state (under self.old)) input }
-        ensures rule { M.Machine.next (under self.new) ≡ M.Machine.next (under self.old) }
-        ensures law { M.Machine.lawful (under self.new) ≡ M.Machine.lawful (under self.old) }
+        ensures moves { M.state (under self.new) ≡ M.next (under self.old) (M.state (under self.old)) input }
+        ensures rule { M.next (under self.new) ≡ M.next (under self.old) }
+        ensures law { M.lawful (under self.new) ≡ M.lawful (under self.old) }
         ensures count { told self.new ≡ counted (told self.old) }
     {
         self.machine.step(input);
@@ -89,12 +75,22 @@ impl<M: Machine> Machine for Counter<M> {
     }
 
     fn load(&mut self, words: &[u32]) -> Result<(), Refusal>
-        ensures value { result ≡ loading M.Machine.wide (M.Machine.lawful (under self.old)) words.now }
-        ensures after { M.Machine.state (under self.new) ≡ loaded M.Machine.wide (M.Machine.lawful (under self.old)) words.now (M.Machine.state (under self.old)) }
-        ensures rule { M.Machine.next (under self.new) ≡ M.Machine.next (under self.old) }
-        ensures law { M.Machine.lawful (under self.new) ≡ M.Machine.lawful (under self.old) }
+        ensures value { result ≡ loading M.W (M.lawful (under self.old)) words.now }
+        ensures after { M.state (under self.new) ≡ loaded M.W (M.lawful (under self.old)) words.now (M.state (under self.old)) }
+        ensures rule { M.next (under self.new) ≡ M.next (under self.old) }
+        ensures law { M.lawful (under self.new) ≡ M.lawful (under self.old) }
         ensures count { told self.new ≡ told self.old }
     {
         self.machine.load(words)
     }
+
+    ghost broad = { M.broad };
+
+    ghost present = { λ c. M.present (under c) };
+
+    ghost sized = { λ c. M.sized (under c) };
+
+    ghost goes = { λ c. M.goes (under c) };
+
+    ghost reads = { λ c. M.reads (under c) };
 }

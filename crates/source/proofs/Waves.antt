@@ -1,7 +1,8 @@
 -- What stands at each place of a signal's list.
-use Rattle.std.proofs.Common.{◌≡◌, ℕ, zero, suc, ◌+◌, ◌-◌, ◌*◌, ◌/◌, ◌%◌, ◌<◌, ◌≤◌, Some, None, Option, refl, ap, ◌∙◌, ⊎_elim, arith}
+use Rattle.std.proofs.Common.{◌≡◌, ℕ, zero, suc, ◌+◌, ◌-◌, ◌*◌, ◌/◌, ◌%◌, ◌<◌, ◌≤◌, ◌⊎◌, inl, inr, ltb, Some, None, Option, refl, ap, ◌∙◌, ⊎_elim, arith}
+use Rattle.std.specs.Bool.{then_some}
 use native.Mathlib.Nat.{mod-add-mod}
-use Rattle.std.proofs.lemmas.Bool.{ne_eqb, eq-eqb, cases_eq}
+use Rattle.std.proofs.lemmas.Bool.{ne_eqb, eq-eqb, cases_eq, cases_lt, lt-ltb, le-ltb}
 use Rattle.terms.specs.declared.Place.{Place}
 use Rattle.source.specs.Scans.{first, reading}
 use Rattle.source.specs.Signals.{from, wave}
@@ -34,11 +35,14 @@ from_at i (suc n) p a b = ⊎_elim here (later (from_at (i + 1) n p)) (cases_eq 
 pub wave_wraps : (i : ℕ) → ((i * 1664525) % 4294967296 + 1013904223) % 4294967296 / 16 ≡ wave i
 wave_wraps i = ap (λ (k : ℕ). k / 16) (mod-add-mod (i * 1664525) 4294967296 1013904223)
 
--- the same, as the reading at a place with another after it, and at the last
-pub from_within : (n p : ℕ) → p + 1 < n → reading (from 0 n) p ≡ Some (wave p, Some (record { 0 = p + 1 }))
-from_within n p h = from_at 0 n p (omega arith) (omega arith) ∙ ap (λ (o : Option Place). Some (wave p, o)) (from_first (p + 1) (0 + n - (p + 1)) (omega arith))
+-- the first place of what is left behind p, if anything is
+from_rest : (n p : ℕ) → first (from (p + 1) (0 + n - (p + 1))) ≡ then_some (ltb (p + 1) n) (record { 0 = p + 1 })
+from_rest n p = by (cases_lt (p + 1) n)
+  where
+    by : (p + 1 < n) ⊎ (n ≤ p + 1) → first (from (p + 1) (0 + n - (p + 1))) ≡ then_some (ltb (p + 1) n) (record { 0 = p + 1 })
+    by (inl h) = rw (lt-ltb (p + 1) n h) (from_first (p + 1) (0 + n - (p + 1)) (omega arith))
+    by (inr h) = rw (le-ltb (p + 1) n h, ap (λ (k : ℕ). first (from (p + 1) k)) (let e : 0 + n - (p + 1) ≡ 0 = omega arith in e)) refl
 
-pub from_last : (n p : ℕ) → p < n → n ≤ p + 1 → reading (from 0 n) p ≡ Some (wave p, None)
-from_last n p h k =
-    let f : 0 + n - (p + 1) ≡ 0 = omega arith in
-    from_at 0 n p (omega arith) (omega arith) ∙ ap (λ (k : ℕ). Some (wave p, first (from (p + 1) k))) f
+-- the reading at a place of the list from 0 on
+pub from_reads : (n p : ℕ) → p < n → reading (from 0 n) p ≡ Some (wave p, then_some (ltb (p + 1) n) (record { 0 = p + 1 }))
+from_reads n p h = from_at 0 n p (omega arith) (omega arith) ∙ ap (λ (o : Option Place). Some (wave p, o)) (from_rest n p)

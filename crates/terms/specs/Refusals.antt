@@ -1,5 +1,7 @@
--- The published number of each refusal, and the place of those that have one.
-use Rattle.std.specs.Prelude.{ℕ, Some, None, Option}
+-- The published number of each refusal, the place of those that have one, and how both are printed.
+use Rattle.std.specs.Prelude.{ℕ, List, ◌++◌, Some, None, Option, codes, decimal}
+use Rattle.terms.specs.declared.Failure.{Failure}
+use Rattle.terms.specs.declared.Failure.TheVariants.{Refused, NoMemory}
 use Rattle.terms.specs.declared.Place.{Place}
 use Rattle.terms.specs.declared.Refusal.{Refusal}
 use Rattle.terms.specs.declared.Refusal.TheVariants.{TooLong, StrayMore, UnknownKind, WrongTotal, AfterEnd, NoEnd, NoRoom, Closed, WideContent, NotOpen, BadSlots, WidthsDiffer, AtStart, AlreadyOpen, AtEnd, NoWord, WrongLength, Unlawful, NoControl, BadSymbol, NoCell, OutOfLimits, NoSlot, WrongWidth, EmptySlot, UnevenPair, BadPool, TooManySlots}
@@ -41,25 +43,18 @@ place (UnknownKind at) = Some at
 place (WrongTotal at) = Some at
 place (AfterEnd at) = Some at
 place (NoEnd at) = Some at
-place NoRoom = None
-place Closed = None
-place WideContent = None
-place NotOpen = None
-place BadSlots = None
-place WidthsDiffer = None
-place AtStart = None
-place AlreadyOpen = None
-place AtEnd = None
-place NoWord = None
-place WrongLength = None
-place Unlawful = None
-place NoControl = None
-place BadSymbol = None
-place NoCell = None
-place OutOfLimits = None
-place NoSlot = None
-place WrongWidth = None
-place EmptySlot = None
-place UnevenPair = None
-place BadPool = None
-place TooManySlots = None
+place _ = None
+
+-- a number in decimal digits, and ` at ` with the place where there is one
+abbrev pub numbered : ℕ → Option Place → List ℕ
+numbered n (Some at) = decimal n ++ codes " at " ++ decimal at.0
+numbered n None = decimal n
+
+-- how a refusal is printed: `12 at 1`
+abbrev pub refusal_text : Refusal → List ℕ
+refusal_text refusal = numbered (number refusal) (place refusal)
+
+-- how a failure is printed: `refused: 12 at 1`
+abbrev pub failure_text : Failure → List ℕ
+failure_text (Refused refusal) = codes "refused: " ++ refusal_text refusal
+failure_text NoMemory = codes "no memory"
