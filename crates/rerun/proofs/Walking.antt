@@ -1,6 +1,6 @@
 -- A walk over a source's places meets its scans in order, and the states of a run add up.
 use Rattle.std.proofs.Common.{◌≡◌, ℕ, zero, suc, ◌+◌, ◌<◌, List, [], ◌∷◌, length, get_or, drop, Some, None, Option, unwrap_or, sym, refl, ap, ◌∙◌, add-one, arith}
-use Rattle.std.proofs.lemmas.Bool.{ne_eqb, eq-eqb}
+use Rattle.std.proofs.lemmas.Bool.{ne_eqb}
 use Rattle.terms.specs.declared.Place.{Place}
 use Rattle.machine.specs.Machines.{run}
 use Rattle.source.specs.Scans.{Sample, Above, Rising, first, reading, inputs}
@@ -8,8 +8,8 @@ use Rattle.rerun.specs.Runs.{at, scan_at}
 
 -- the place of scan i of a list, all of whose places are above `low`
 above_at : (low : ℕ) (ss : List Sample) → Above low ss → (i : ℕ) (s : Sample) (rest : List Sample) → drop i ss ≡ s ∷ rest → low < s.place
-above_at low [] h zero s rest e = absurd (let z : ◌≡◌ {A = ℕ} 0 1 = cc in omega arith)
-above_at low [] h (suc i) s rest e = absurd (let z : ◌≡◌ {A = ℕ} 0 1 = cc in omega arith)
+above_at low [] h zero s rest e = cc
+above_at low [] h (suc i) s rest e = cc
 above_at low (t ∷ ss) h zero s rest e = let p : t ≡ s = cc in rw (← p) h.0
 above_at low (t ∷ ss) h (suc i) s rest e = omega (arith, h.0, above_at t.place ss h.1 i s rest e)
 
@@ -20,27 +20,22 @@ above_rising low (s ∷ ss) h = h.1
 -- reading at the place of scan i: its input, with the place of the scan after it
 pub reading_at : (ss : List Sample) → Rising ss → (i : ℕ) (s : Sample) (rest : List Sample) → drop i ss ≡ s ∷ rest →
     reading ss s.place ≡ Some (s.input, first rest)
-reading_at [] h zero s rest e = absurd (let z : ◌≡◌ {A = ℕ} 0 1 = cc in omega arith)
-reading_at [] h (suc i) s rest e = absurd (let z : ◌≡◌ {A = ℕ} 0 1 = cc in omega arith)
-reading_at (t ∷ ss) h zero s rest e =
-    let p : t ≡ s = cc in
-    let q : ss ≡ rest = cc in
-    rw (p, q, eq-eqb s.place s.place refl) refl
-reading_at (t ∷ ss) h (suc i) s rest e =
-    let l : t.place < s.place = above_at t.place ss h i s rest e in
-    rw (ne_eqb t.place s.place (λ p. omega arith)) (reading_at ss (above_rising t.place ss h) i s rest e)
+reading_at [] h zero s rest e = cc
+reading_at [] h (suc i) s rest e = cc
+reading_at (t ∷ ss) h zero s rest e = grind arith
+reading_at (t ∷ ss) h (suc i) s rest e = grind (arith, reading_at ss (above_rising t.place ss h) i s rest e, above_at, ne_eqb, above_rising)
 
 -- input i of a list is the input of scan i
 inputs_at : (ss : List Sample) (i : ℕ) (s : Sample) (rest : List Sample) → drop i ss ≡ s ∷ rest → get_or (inputs ss) i 0 ≡ s.input
-inputs_at [] zero s rest e = absurd (let z : ◌≡◌ {A = ℕ} 0 1 = cc in omega arith)
-inputs_at [] (suc i) s rest e = absurd (let z : ◌≡◌ {A = ℕ} 0 1 = cc in omega arith)
-inputs_at (t ∷ ss) zero s rest e = let p : t ≡ s = cc in ap (λ (u : Sample). u.input) p
+inputs_at [] zero s rest e = cc
+inputs_at [] (suc i) s rest e = cc
+inputs_at (t ∷ ss) zero s rest e = cc
 inputs_at (t ∷ ss) (suc i) s rest e = inputs_at ss i s rest e
 
 -- what is left of a list behind a scan
 drop_next : (ss : List Sample) (i : ℕ) (s : Sample) (rest : List Sample) → drop i ss ≡ s ∷ rest → drop (suc i) ss ≡ rest
-drop_next [] zero s rest e = absurd (let z : ◌≡◌ {A = ℕ} 0 1 = cc in omega arith)
-drop_next [] (suc i) s rest e = absurd (let z : ◌≡◌ {A = ℕ} 0 1 = cc in omega arith)
+drop_next [] zero s rest e = cc
+drop_next [] (suc i) s rest e = cc
 drop_next (t ∷ ss) zero s rest e = cc
 drop_next (t ∷ ss) (suc i) s rest e = drop_next ss i s rest e
 
@@ -69,7 +64,7 @@ at_more next x inputs i = ap (at next x inputs) (add-one i)
 -- the states of a run that begins one scan later
 at_later : (next : List ℕ → ℕ → List ℕ) (x : List ℕ) (i : ℕ) (is : List ℕ) (n : ℕ) → at next (next x i) is n ≡ at next x (i ∷ is) (suc n)
 at_later next x i is zero = refl
-at_later next x i is (suc n) = ap (λ (y : List ℕ). next y (get_or is n 0)) (at_later next x i is n)
+at_later next x i is (suc n) = grind (arith, at_later next x i is n, get_or)
 
 -- the last state is that of the run
 pub at_run : (next : List ℕ → ℕ → List ℕ) (x inputs : List ℕ) → at next x inputs (length inputs) ≡ run next x inputs

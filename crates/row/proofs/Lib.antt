@@ -1,3 +1,4 @@
+pub mod Made
 pub mod Packing
 pub mod Stepping
 pub mod Examples

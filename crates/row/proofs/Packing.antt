@@ -1,20 +1,18 @@
 -- Packed cells read back, and words packed again.
-use Rattle.std.proofs.Common.{◌≡◌, ℕ, zero, suc, ◌+◌, ◌-◌, ◌*◌, ◌/◌, ◌%◌, ◌^◌, ◌<◌, ◌≤◌, true, List, [], ◌∷◌, length, get_or, drop, sym, refl, ap, ◌∙◌, add-zero, mod-eq_of_lt, mul_comm, pow-suc, arith, drop-cons, pow_pos, pow_mono}
+use Rattle.std.proofs.Common.{◌≡◌, ℕ, zero, suc, ◌+◌, ◌*◌, ◌/◌, ◌%◌, ◌^◌, ◌<◌, ◌≤◌, Bool, true, false, List, [], ◌∷◌, length, get_or, take, drop, fold, reverse, sym, refl, ap, ◌∙◌, add-zero, mod-eq_of_lt, mul_comm, pow-suc, arith, drop-cons, add-one, pow_pos, pow_mono}
+use Rattle.std.proofs.lemmas.List.Sums.{fold-append}
 use native.Mathlib.Nat.{div-div-eq-div-mul}
 use lib.Arith.{mod-mul}
-use Rattle.std.proofs.lemmas.List.{drop_all}
+use Rattle.std.proofs.lemmas.List.{drop_all, reverse-append}
 use Rattle.machine.specs.Machines.{Words}
-use Rattle.row.specs.Cells.{bits, words, pack, cell, lawful, wide}
-use Rattle.row.specs.Laws.{Binary, bits_fit, lawful_sized}
+use Rattle.row.specs.Cells.{bit, bits, words, pack, cell, lawful, wide}
+use Rattle.row.specs.Laws.{Binary, bits_fit, bit_binary, lawful_sized}
 
 -- bit k of a packed number is the cell that was packed there
 pub bits_at : (f : ℕ → ℕ) → Binary f → (from n k : ℕ) → k < n → bits f from n / 2 ^ k % 2 ≡ f (from + k)
 unfolding bits
 bits_at f b from zero k h = absurd (omega arith)
-bits_at f b from (suc n) zero h =
-    let s = b from in
-    let e : f (from + 0) ≡ f from = ap f (add-zero from) in
-    omega arith
+bits_at f b from (suc n) zero h = grind arith
 bits_at f b from (suc n) (suc k) h =
     let s = b from in
     let x : ℕ = f from + 2 * bits f (from + 1) n in
@@ -44,17 +42,12 @@ bits_of f from (suc n) w h =
 pub words_at : (f : ℕ → ℕ) (k n j : ℕ) → j < n → get_or (words f k n) j 0 ≡ bits f (32 * (k + j)) 32
 unfolding words
 words_at f k zero j h = absurd (omega arith)
-words_at f k (suc n) zero h = ap (λ (i : ℕ). bits f (32 * i) 32) (sym (add-zero k))
-words_at f k (suc n) (suc j) h =
-    let q : k + 1 + j ≡ k + suc j = omega arith in
-    words_at f (k + 1) n j (omega arith) ∙ ap (λ (i : ℕ). bits f (32 * i) 32) q
+words_at f k (suc n) zero h = grind arith
+words_at f k (suc n) (suc j) h = grind (arith, words_at f (k + 1) n j (omega arith))
 
 -- a packed cell reads back
 pub cell_pack : (f : ℕ → ℕ) → Binary f → (c : ℕ) → c < 256 → cell (pack f) c ≡ f c
-cell_pack f b c h =
-    let e = words_at f 0 wide (c / 32) (omega arith) in
-    let q : 32 * (0 + c / 32) + c % 32 ≡ c = omega arith in
-    ap (λ (w : ℕ). w / 2 ^ (c % 32) % 2) e ∙ bits_at f b (32 * (0 + c / 32)) 32 (c % 32) (omega arith) ∙ ap f q
+cell_pack f b c h = grind (arith, words_at, bits_at)
 
 -- words packed from their own cells
 pub words_back : (x : List ℕ) → ((j : ℕ) → j < length x → get_or x j 0 < 2 ^ 32) → (k n : ℕ) → k + n ≡ length x → words (cell x) k n ≡ drop k x
@@ -85,19 +78,25 @@ pack_cells x h =
     let s = lawful_sized x h in
     words_back x (words_below x s.1) 0 wide (sym s.0)
 
--- with a bit still to come, a packed number leaves room for it
-pub bits_room : (f : ℕ → ℕ) → Binary f → (from b w : ℕ) → 0 < b → w ≡ bits f from (32 - b) → 2 * w + 1 < 2 ^ 32
-bits_room f p from b w h e =
-    let s = bits_fit f p from (32 - b) in
-    let l : 32 - b ≤ 31 = omega arith in
-    let m : 2 ^ (32 - b) ≤ 2 ^ 31 = pow_mono {i = 32 - b} {j = 31} l in
-    omega arith
+-- one cell more at the low end of a word
+abbrev pub joined : ℕ → Bool → ℕ
+joined w x = w * 2 % 2 ^ 32 + bit x
 
--- one bit more at the low end
-pub bits_more : (f : ℕ → ℕ) (from b w : ℕ) → 0 < b → b ≤ 32 → w ≡ bits f (from + b) (32 - b) →
-    2 * w + f (from + (b - 1)) ≡ bits f (from + (b - 1)) (32 - (b - 1))
+joins_more : (x : Bool) (xs : List Bool) → fold joined 0 (reverse (x ∷ xs)) ≡ joined (fold joined 0 (reverse xs)) x
+joins_more x xs = ap (fold joined 0) (reverse-append (x ∷ []) xs) ∙ fold-append joined 0 (reverse xs) (x ∷ [])
+
+-- n cells joined from the last one down are the number whose bits they are
+pub joins : (cells : List Bool) (from n : ℕ) → from + n ≤ length cells → n ≤ 32 →
+    fold joined 0 (reverse (take n (drop from cells))) ≡ bits (λ c. bit (get_or cells c false)) from n
 unfolding bits
-bits_more f from b w h k e =
-    let n : 32 - (b - 1) ≡ suc (32 - b) = omega arith in
-    let a : from + (b - 1) + 1 ≡ from + b = omega arith in
-    rw (n, a, ← e) (omega arith)
+joins cells from zero l m = refl
+joins cells from (suc n) l m =
+    let f : ℕ → ℕ = λ c. bit (get_or cells c false) in
+    let x : Bool = get_or cells from false in
+    let d : drop from cells ≡ x ∷ drop (from + 1) cells = drop-cons cells from false (omega arith) ∙ ap (λ (i : ℕ). x ∷ drop i cells) (sym (add-one from)) in
+    let s = bits_fit f (λ k. bit_binary (get_or cells k false)) (from + 1) n in
+    let p : 2 ^ n ≤ 2 ^ 31 = pow_mono {i = n} {j = 31} (omega arith) in
+    ap (λ (ys : List Bool). fold joined 0 (reverse (take (suc n) ys))) d
+    ∙ joins_more x (take n (drop (from + 1) cells))
+    ∙ ap (λ (w : ℕ). joined w x) (joins cells (from + 1) n (omega arith) (omega arith))
+    ∙ omega arith

@@ -1,14 +1,15 @@
 -- Cells as a list of flags and as packed words: setting one, writing an input, stepping all.
-use Rattle.std.proofs.Common.{◌≡◌, ℕ, zero, suc, ◌+◌, ◌-◌, ◌%◌, ◌^◌, ◌<◌, ◌≤◌, Bool, true, false, cond, eqb, ltb, ◌≢◌, ◌⊎◌, List, [], ◌∷◌, length, get_or, set, Ok, sym, refl, ap, ◌∙◌, inl, inr, ⊎_elim, mod-lt, arith, get_or-set_other, get_or-set_same}
+use Rattle.std.proofs.Common.{◌≡◌, ℕ, zero, suc, ◌+◌, ◌-◌, ◌*◌, ◌%◌, ◌^◌, ◌<◌, ◌≤◌, Bool, true, false, cond, eqb, ltb, ◌≢◌, ◌⊎◌, List, [], ◌∷◌, length, get_or, set, Ok, sym, refl, ap, ◌∙◌, ⊎_elim, mod-lt, arith, get_or-set_other, get_or-set_same}
 use Rattle.machine.specs.Machines.{address, value, loading, loaded}
-use Rattle.std.proofs.lemmas.Bool.{ne_eqb, eq-eqb, cases_eq, lt-ltb, and_from, cond-true}
-use Rattle.row.specs.Cells.{packed, cell, bit, given, next, lower, higher, outcome, placed, lawful, fits, wide}
-use Rattle.row.specs.Laws.{pack_same, bit_binary}
-use Rattle.row.proofs.Packing.{cell_pack, pack_cells}
+use Rattle.std.proofs.lemmas.Bool.{ne_eqb, eq-eqb, cases_eq, lt-ltb, and_from}
+use Rattle.std.proofs.lemmas.List.{ext_get_or}
+use Rattle.row.specs.Cells.{packed, pack, bits, cell, bit, given, next, lower, higher, outcome, placed, lawful, fits, wide}
+use Rattle.row.specs.Laws.{pack_same, words_length}
+use Rattle.row.proofs.Packing.{cell_pack, pack_cells, words_at}
 
 -- a cell of packed flags
 pub cell_packed : (cells : List Bool) (c : ℕ) → c < 256 → cell (packed cells) c ≡ bit (get_or cells c false)
-cell_packed cells c h = cell_pack (λ k. bit (get_or cells k false)) (λ k. bit_binary (get_or cells k false)) c h
+cell_packed cells c h = grind (arith, cell_pack, get_or)
 
 -- a flag that tests a number below 2 for 1 is that number
 pub bit_test : (v : ℕ) → v < 2 → bit (eqb v 1) ≡ v
@@ -37,20 +38,12 @@ set_packed cells i v l h k =
 -- an input that names a cell
 pub given_set : (cells : List Bool) (input : ℕ) → length cells ≡ 256 → 1 ≤ address input → address input ≤ 256 →
     (c : ℕ) → c < 256 → bit (get_or (set cells (address input - 1) (eqb (value input % 2) 1)) c false) ≡ given (packed cells) input c
-given_set cells input l a b c h =
-    set_at cells (address input - 1) (value input % 2) c (omega arith) (mod-lt (value input) (omega arith))
-    ∙ rw (cell_packed cells c h) (same (cases_eq c (address input - 1)))
-  where
-    same : (c ≡ address input - 1) ⊎ (c ≡ address input - 1 → ⊥) →
-        cond (eqb c (address input - 1)) (value input % 2) (bit (get_or cells c false)) ≡ cond (eqb (address input) (c + 1)) (value input % 2) (bit (get_or cells c false))
-    same (inl e) = rw (eq-eqb c (address input - 1) e, eq-eqb (address input) (c + 1) (omega arith)) refl
-    same (inr n) = rw (ne_eqb c (address input - 1) n, ne_eqb (address input) (c + 1) (λ e. n (omega arith))) refl
+given_set cells input l a b c h = grind (arith, set_at, mod-lt, cell_packed, cases_eq, get_or, eq-eqb, ne_eqb)
 
 -- an input that names none
 pub given_none : (cells : List Bool) (input : ℕ) → (address input < 1) ⊎ (256 < address input) →
     (c : ℕ) → c < 256 → bit (get_or cells c false) ≡ given (packed cells) input c
-given_none cells input o c h =
-    rw (ne_eqb (address input) (c + 1) (λ e. ⊎_elim (λ a. omega arith) (λ b. omega arith) o)) (sym (cell_packed cells c h))
+given_none cells input o c h = grind (arith, ne_eqb, cell_packed)
 
 -- a whole step
 pub step_packed : (rule : ℕ) (old mid new : List Bool) (input : ℕ) →
@@ -76,23 +69,20 @@ all_fit [] h = refl
 all_fit (w ∷ ws) h = and_from (ltb w (2 ^ 32)) (fits ws) (lt-ltb w (2 ^ 32) (h 0)) (all_fit ws (λ j. h (suc j)))
 
 pub words_lawful : (words : List ℕ) → length words ≡ 8 → ((j : ℕ) → get_or words j 0 < 2 ^ 32) → lawful words ≡ true
-words_lawful words l h = and_from (eqb (length words) 8) (fits words) (eq-eqb (length words) 8 l) (all_fit words h)
-
--- one flag more of those that a loop fills in
-pub filled : (cells : List Bool) (i : ℕ) (b : Bool) (g : ℕ → ℕ) → i < length cells →
-    ((k : ℕ) → k < i → bit (get_or cells k false) ≡ g k) → bit b ≡ g i →
-    (k : ℕ) → k < i + 1 → bit (get_or (set cells i b) k false) ≡ g k
-filled cells i b g l before here k h = ⊎_elim same other (cases_eq k i)
-  where
-    same : k ≡ i → bit (get_or (set cells i b) k false) ≡ g k
-    same e = rw (e, get_or-set_same) here
-
-    other : (k ≡ i → ⊥) → bit (get_or (set cells i b) k false) ≡ g k
-    other ne = let n : k ≢ i = ne in rw get_or-set_other (before k (omega arith))
+words_lawful words l h = grind (arith, and_from, eq-eqb, all_fit)
 
 -- a load of eight lawful words is taken
 pub loads : (words : List ℕ) → length words ≡ 8 → lawful words ≡ true → Ok tt ≡ loading wide lawful words
-loads words l h = sym (cond-true (eqb (length words) 8) _ _ (eq-eqb (length words) 8 l) ∙ cond-true (lawful words) _ _ h)
+loads words l h = cc
 
 pub loads_to : (words state : List ℕ) → length words ≡ 8 → lawful words ≡ true → words ≡ loaded wide lawful words state
-loads_to words state l h = sym (cond-true (eqb (length words) 8) _ _ (eq-eqb (length words) 8 l) ∙ cond-true (lawful words) _ _ h)
+loads_to words state l h = cc
+
+-- eight words that are each packed from their own cells
+pub packs : (f : ℕ → ℕ) (x : List ℕ) → length x ≡ 8 → ((k : ℕ) → k < 8 → get_or x k 0 ≡ bits f (32 * k) 32) → x ≡ pack f
+packs f x l h =
+    ext_get_or 0 x (pack f) (l ∙ sym (words_length f 0 wide))
+    (λ k b. let j : k < 8 = omega arith in h k j ∙ ap (λ (i : ℕ). bits f (32 * i) 32) (zero_more k) ∙ sym (words_at f 0 wide k j))
+  where
+    zero_more : (k : ℕ) → k ≡ 0 + k
+    zero_more k = omega arith

@@ -1,5 +1,5 @@
 -- A row: 256 cells of 0 or 1 in a ring, its eight words, and Wolfram's step.
-use Rattle.std.specs.Prelude.{ℕ, zero, suc, ◌+◌, ◌*◌, ◌/◌, ◌%◌, ◌^◌, Bool, true, false, cond, ◌&&◌, List, [], ◌∷◌, length, Ok, Err, Result, ◌==◌, nat_lt, slice_index, slice_index_or}
+use Rattle.std.specs.Prelude.{◌≡◌, ℕ, zero, suc, ◌+◌, ◌*◌, ◌/◌, ◌%◌, ◌^◌, ◌<◌, Bool, true, false, cond, ◌&&◌, List, [], ◌∷◌, length, Ok, Err, Result, ◌==◌, nat_lt, slice_index, slice_index_or}
 use Rattle.machine.specs.Machines.{address, value}
 use Rattle.terms.specs.declared.Refusal.{Refusal}
 use Rattle.terms.specs.declared.Refusal.TheVariants.{NoCell, BadSymbol}
@@ -30,6 +30,10 @@ given words input c = cond (address input == c + 1) (value input % 2) (cell word
 -- a cell after a step: the outcome of its neighbourhood as given
 abbrev pub stepped : (rule : ℕ) → List ℕ → ℕ → ℕ → ℕ
 stepped rule words input c = outcome rule (given words input (lower c)) (given words input c) (given words input (higher c))
+
+-- every cell of a state takes its step from another state
+abbrev pub Steps : (rule : ℕ) → (old : List ℕ) (input : ℕ) (new : List ℕ) → Type 0
+Steps rule old input new = (c : ℕ) → c < 256 → cell new c ≡ stepped rule old input c
 
 -- the number whose n bits are the cells from `from` on, the lowest bit first
 unfoldable pub bits : (ℕ → ℕ) → ℕ → ℕ → ℕ
@@ -63,9 +67,18 @@ abbrev pub bit : Bool → ℕ
 bit true = 1
 bit false = 0
 
+-- cell c of a list, as a number
+abbrev pub bit_at : List Bool → ℕ → ℕ
+bit_at cells c = bit (slice_index_or cells c false)
+
 -- the words of a list of cells
 abbrev pub packed : List Bool → List ℕ
-packed cells = pack (λ c. bit (slice_index_or cells c false))
+packed cells = pack (bit_at cells)
+
+-- every cell of a list is the outcome of its neighbourhood in another
+abbrev pub Succeeds : (rule : ℕ) → List Bool → List Bool → Type 0
+Succeeds rule old new =
+    (c : ℕ) → c < 256 → bit_at new c ≡ outcome rule (bit_at old (lower c)) (bit_at old c) (bit_at old (higher c))
 
 -- setting a start cell is refused where there is no such cell, then for a value above 1
 abbrev pub setting : (cell value : ℕ) → Result (Unit {0}) Refusal

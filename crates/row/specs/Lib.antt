@@ -1,3 +1,4 @@
 pub mod Cells
 pub mod Laws
+pub mod Rows
 pub mod Examples

@@ -1,17 +1,18 @@
 // The row: an elementary cellular automaton on a ring of 256 cells.
 #![tactic(auto)]
 
-ghost use Rattle.std.specs.Prelude.{◌≡◌, ℕ, ◌*◌, ◌<◌, ◌≤◌, false, length, replicate, MatchResult, slice_index_or};
+ghost use Rattle.std.specs.Prelude.{◌≡◌, ℕ, ◌*◌, ◌<◌, ◌≤◌, length, replicate, IfErr, IfOk, OnErr, OnOk};
 ghost use Rattle.std.proofs.Common.{arith};
-ghost use Rattle.row.specs.Cells.{bit, bits, cell, given, higher, lawful, lower, next, outcome, packed, placed, setting, stepped, wide};
+ghost use Rattle.row.specs.Cells.{Steps, Succeeds, bit, bit_at, bits, cell, given, lawful, next, outcome, placed, setting, wide};
 ghost use Rattle.row.specs.Examples.{Lone};
 ghost use Rattle.row.specs.Laws.{lawful_sized, next_lawful, next_read, packed_lawful};
 ghost use Rattle.terms.specs.declared.Refusal.TheVariants.{OutOfLimits};
 
 use machine::Machine;
+use std::array::from_fn;
 use terms::Refusal;
 
-// A row under one of Wolfram's 256 elementary rules.
+/// A row under one of Wolfram's 256 elementary rules.
 #[derive(Drop)]
 pub struct Row {
     rule: u32,
@@ -20,9 +21,15 @@ pub struct Row {
 }
 
 impl Row {
-    // A row of zeros under a rule from 0 to 255.
+    ghost use Rattle.row.specs.Rows.{rule_of, state_of};
+
+    /// A row of zeros under a rule from 0 to 255.
     pub fn new(rule: u32) -> Result<Row, Refusal>
-        ensures { MatchResult result (λ row. (rule ≤ 255) × (row.rule ≡ rule) × (packed row.cells ≡ replicate 8 0)) (λ e. (255 < rule) × (e ≡ OutOfLimits)) }
+        ensures taken { OnOk result (rule ≤ 255) }
+        ensures rule { IfOk result (λ row. rule_of row ≡ rule) }
+        ensures zeros { IfOk result (λ row. state_of row ≡ replicate 8 0) }
+        ensures past { OnErr result (255 < rule) }
+        ensures refused { IfErr result (λ e. e ≡ OutOfLimits) }
     {
         if rule > 255 {
             return Err(Refusal::OutOfLimits);
@@ -33,11 +40,11 @@ impl Row {
         })
     }
 
-    // Sets a start cell.
+    /// Sets a start cell.
     pub fn set_cell(&mut self, cell: u32, value: u32) -> Result<(), Refusal>
         ensures value { result ≡ setting cell value }
-        ensures after { packed self.new.cells ≡ placed cell value (packed self.old.cells) }
-        ensures rule { self.new.rule ≡ self.old.rule }
+        ensures after { state_of self.new ≡ placed cell value (state_of self.old) }
+        ensures rule { rule_of self.new ≡ rule_of self.old }
     {
         if cell > 255 {
             return Err(Refusal::NoCell);
@@ -51,15 +58,15 @@ impl Row {
 
     // An address from 1 to 256 names the cell that takes the value mod 2.
     fn write(&mut self, input: u32)
-        ensures places { (c : ℕ) → c < 256 → bit (slice_index_or self.new.cells c false) ≡ given (packed self.old.cells) input c }
-        ensures rule { self.new.rule ≡ self.old.rule }
+        ensures places { (c : ℕ) → c < 256 → bit_at self.new.cells c ≡ given (state_of self.old) input c }
+        ensures rule { rule_of self.new ≡ rule_of self.old }
     {
-        let address = input % 65536;
-        let value = (input >> 16) % 4096;
-        if address < 1 || address > 256 {
-            return;
+        let address = machine::address(input);
+        let value = machine::value(input);
+        match address {
+            1..=256 => self.cells[(address - 1) as usize] = value % 2 == 1,
+            _ => {}
         }
-        self.cells[(address - 1) as usize] = value % 2 == 1;
     }
 }
 
@@ -74,41 +81,73 @@ fn successor(rule: u32, left: bool, middle: bool, right: bool) -> bool
 // Every cell's successor, all read before any is written.
 fn advanced(rule: u32, old: &[bool; 256]) -> [bool; 256]
     ensures length { length result ≡ 256 }
-    ensures places { (c : ℕ) → c < 256 → bit (slice_index_or result c false) ≡ outcome rule (bit (slice_index_or old.now (lower c) false)) (bit (slice_index_or old.now c false)) (bit (slice_index_or old.now (higher c) false)) }
+    ensures places { Succeeds rule old.now result }
 {
-    let mut cells = [false; 256];
-    for c in 0..256 {
-        cells[c] = successor(rule, old[(c + 255) % 256], old[c], old[(c + 1) % 256]);
-    }
-    cells
+    from_fn(|c| successor(rule, old[(c + 255) % 256], old[c], old[(c + 1) % 256]))
 }
 
 // Word k of the cells, from its highest bit down.
-fn word(cells: &[bool; 256], k: usize) -> u32
-    ensures { k < 8 → result ≡ bits (λ c. bit (slice_index_or cells.now c false)) (32 * k) 32 }
+fn packed_word(cells: &[bool; 256], k: usize) -> u32
+    requires { k < 8 }
+    ensures { result ≡ bits (bit_at cells.now) (32 * k) 32 }
 {
-    if k >= 8 {
-        return 0;
-    }
-    let mut w: u32 = 0;
-    for b in (0..32).rev() {
-        w = 2 * w + u32::from(cells[32 * k + b]);
-    }
-    w
+    cells[32 * k..32 * k + 32]
+        .iter()
+        .rev()
+        .fold(0, |w: u32, cell| (w << 1) + u32::from(*cell))
+}
+
+// Cell c of eight words.
+fn unpacked_cell(words: &[u32], c: usize) -> bool
+    requires words { length words.now ≡ 8 }
+    requires cell { c < 256 }
+    ensures { bit result ≡ cell words.now c }
+{
+    (words[c / 32] >> (c % 32)) % 2 == 1
 }
 
 impl Machine for Row {
+    ghost use Rattle.row.specs.Rows.{rule_of, state_of};
+
     const W: usize = 8;
 
-    ghost wide = { wide };
+    ghost W = { wide };
 
-    ghost broad = { (omega arith, omega arith) };
+    ghost state = { λ r. state_of r };
 
-    ghost state = { λ r. packed r.cells };
-
-    ghost next = { λ r. next r.rule };
+    ghost next = { λ r. next (rule_of r) };
 
     ghost lawful = { λ r. lawful };
+
+    fn step(&mut self, input: u32)
+        ensures moves { state_of self.new ≡ next (rule_of self.old) (state_of self.old) input }
+        ensures rule { next (rule_of self.new) ≡ next (rule_of self.old) }
+        ensures law { lawful ≡ lawful }
+        ensures cells { Steps (rule_of self.old) (state_of self.old) input (state_of self.new) }
+        ensures lone { Lone }
+    {
+        self.write(input);
+        self.cells = advanced(self.rule, &self.cells);
+    }
+
+    fn save(&self, buffer: &mut [u32]) -> Result<(), Refusal> {
+        if buffer.len() != Self::W {
+            return Err(Refusal::WrongLength);
+        }
+        let words: [u32; 8] = from_fn(|k| packed_word(&self.cells, k));
+        buffer.copy_from_slice(&words);
+        Ok(())
+    }
+
+    fn load(&mut self, words: &[u32]) -> Result<(), Refusal> {
+        if words.len() != Self::W {
+            return Err(Refusal::WrongLength);
+        }
+        self.cells = from_fn(|c| unpacked_cell(words, c));
+        Ok(())
+    }
+
+    ghost broad = { (omega arith, omega arith) };
 
     ghost present = { λ r. packed_lawful r.cells };
 
@@ -117,50 +156,6 @@ impl Machine for Row {
     ghost goes = { λ r x i h. next_lawful r.rule x i };
 
     ghost reads = { λ r x i. next_read r.rule x i };
-
-    fn width() -> usize {
-        Self::W
-    }
-
-    fn step(&mut self, input: u32)
-        ensures moves { packed self.new.cells ≡ next self.old.rule (packed self.old.cells) input }
-        ensures rule { next self.new.rule ≡ next self.old.rule }
-        ensures law { lawful ≡ lawful }
-        ensures cells { (c : ℕ) → c < 256 → cell (packed self.new.cells) c ≡ stepped self.old.rule (packed self.old.cells) input c }
-        ensures lone { Lone }
-    {
-        self.write(input);
-        let cells = advanced(self.rule, &self.cells);
-        self.cells = cells;
-    }
-
-    fn save(&self, buffer: &mut [u32]) -> Result<(), Refusal> {
-        if buffer.len() != Self::W {
-            return Err(Refusal::WrongLength);
-        }
-        let cells = &self.cells;
-        buffer.copy_from_slice(&[
-            word(cells, 0),
-            word(cells, 1),
-            word(cells, 2),
-            word(cells, 3),
-            word(cells, 4),
-            word(cells, 5),
-            word(cells, 6),
-            word(cells, 7),
-        ]);
-        Ok(())
-    }
-
-    fn load(&mut self, words: &[u32]) -> Result<(), Refusal> {
-        if words.len() != Self::W {
-            return Err(Refusal::WrongLength);
-        }
-        for c in 0..256 {
-            self.cells[c] = (words[c / 32] >> (c % 32)) % 2 == 1;
-        }
-        Ok(())
-    }
 }
 
 #[cfg(test)]

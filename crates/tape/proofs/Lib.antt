@@ -1,3 +1,4 @@
 pub mod Marks
 pub mod Steps
 pub mod Settings
+pub mod Rules

@@ -1,5 +1,5 @@
 -- A symbol read from a word and replaced in it, by shifts.
-use Rattle.std.proofs.Common.{◌≡◌, ℕ, zero, suc, ◌+◌, ◌-◌, ◌*◌, ◌/◌, ◌%◌, ◌^◌, ◌<◌, ◌≤◌, List, [], ◌∷◌, length, get_or, drop, set, refl, ap, ◌∙◌, pow-suc, arith, w32, Fits}
+use Rattle.std.proofs.Common.{◌≡◌, ℕ, zero, suc, ◌+◌, ◌-◌, ◌*◌, ◌/◌, ◌%◌, ◌^◌, ◌<◌, ◌≤◌, true, ltb, List, [], ◌∷◌, length, get_or, drop, set, refl, ap, ◌∙◌, pow-suc, arith, w32, Fits}
 use lib.Bits.{bit_and}
 use Rattle.machine.specs.Machines.{Words}
 use Rattle.std.specs.List.{flat_map}
@@ -7,7 +7,8 @@ use Rattle.std.proofs.lemmas.Nat.{and_mask, shl_whole, shr_split, mod_below, mul
 use Rattle.std.proofs.lemmas.List.{get_or-drop, length-drop, drop-set-add, get_or-set_other}
 use Rattle.tape.specs.Symbols.{digit_fit}
 use Rattle.tape.specs.Cells.{cell_at, cell_set}
-use Rattle.tape.specs.Layout.{wide, symbols, configuration}
+use Rattle.tape.specs.Layout.{wide, symbols, configuration, fit}
+use Rattle.std.proofs.lemmas.Bool.{and_parts, and_from}
 use Rattle.tape.specs.Turing.{marked}
 
 pub pairs : (p : ℕ) → 2 ^ (2 * p) ≡ 4 ^ p
@@ -91,7 +92,9 @@ words_from_fits [] h = tt
 words_from_fits (w ∷ ws) h = ((h 0).fits, words_from_fits ws (λ k. h (suc k)))
 
 -- words with one of them replaced by a word
-pub words_set : (x : List ℕ) (k v : ℕ) → v < 2 ^ 32 → Words x → Words (set x k v)
-words_set [] k v f h = tt
-words_set (w ∷ ws) zero v f h = (f, h.1)
-words_set (w ∷ ws) (suc k) v f h = (h.0, words_set ws k v f h.1)
+pub fit_set : (x : List ℕ) (k v : ℕ) → v < 2 ^ 32 → fit x ≡ true → fit (set x k v) ≡ true
+fit_set [] k v f h = refl
+fit_set (w ∷ ws) zero v f h = grind arith
+fit_set (w ∷ ws) (suc k) v f h =
+    let p = and_parts (ltb w (2 ^ 32)) (fit ws) h in
+    and_from (ltb w (2 ^ 32)) (fit (set ws k v)) p.0 (fit_set ws k v f p.1)

@@ -1,12 +1,10 @@
 -- Entries set one after another, and a cell set by hand.
 use Rattle.std.proofs.Common.{◌≡◌, ℕ, zero, suc, ◌+◌, ◌<◌, ◌≤◌, true, ◌&&◌, eqb, List, [], ◌∷◌, length, get_or, drop, set, is_ok, Some, None, Ok, Err, Option, Result, sym, refl, ap, ◌∙◌, arith}
-use Rattle.std.proofs.ByRecursion.{All-set}
-use Rattle.std.proofs.lemmas.List.{drop_more, drop_all, length-set, get_or-set_same, get_or-set_other}
+use Rattle.std.proofs.lemmas.List.{drop_more, length-set, get_or-set_same, get_or-set_other}
 use Rattle.std.proofs.lemmas.Bool.{and_parts, and_from, eqb-true, eq-eqb, cond_both, both_ways, false≢true}
-use Rattle.tape.specs.Laws.{kept, parts, held, words_lawful}
-use Rattle.tape.specs.Layout.{configuration, words, lawful}
-use Rattle.tape.specs.Tables.{empty, setting, entered, filled, judged, tabling, built, taken, sound, latest}
-use Rattle.tape.specs.Turing.{place, found, marked}
+use Rattle.tape.specs.Laws.{kept}
+use Rattle.tape.specs.Tables.{empty, setting, after, entered, filled, judged, tabling, built, taken, sound, latest}
+use Rattle.tape.specs.Turing.{place, found}
 use Rattle.tape.specs.declared.entry.BadEntry.{BadEntry}
 use Rattle.tape.specs.declared.entry.Entry.{Entry}
 use Rattle.terms.specs.declared.Refusal.{Refusal}
@@ -14,10 +12,19 @@ use Rattle.terms.specs.declared.Refusal.{Refusal}
 -- a sound table with one more entry that is taken
 pub sound_set : (states : ℕ) (table : List (Option Entry)) (k : ℕ) (e : Entry) → setting states e ≡ Ok tt → sound states table ≡ true → sound states (set table k (Some e)) ≡ true
 sound_set states [] k e t h = refl
-sound_set states (o ∷ os) zero e t h = and_from (taken states (Some e)) (sound states os) (ap is_ok t) (and_parts (taken states o) (sound states os) h).1
+sound_set states (o ∷ os) zero e t h = grind arith
 sound_set states (o ∷ os) (suc k) e t h =
     let p = and_parts (taken states o) (sound states os) h in
     and_from (taken states o) (sound states (set os k (Some e))) p.0 (sound_set states os k e t p.1)
+
+-- and it is sound and as long after a call that may have refused the entry
+pub sound_after : (states : ℕ) (e : Entry) (table : List (Option Entry)) (r : Result (Unit {0}) Refusal) → r ≡ setting states e → sound states table ≡ true → sound states (after r e table) ≡ true
+sound_after states e table (Ok done) t h = grind (arith, sound_set)
+sound_after states e table (Err refusal) t h = h
+
+pub length_after : (e : Entry) (table : List (Option Entry)) (r : Result (Unit {0}) Refusal) → length (after r e table) ≡ length table
+length_after e table (Ok done) = grind (arith, length-set)
+length_after e table (Err refusal) = refl
 
 -- where all were taken, the first was and so were those behind it
 judged_ok : (r : Result (Unit {0}) Refusal) (at : ℕ) (others : Result (Unit {0}) BadEntry) → judged r at others ≡ Ok tt → (r ≡ Ok tt) × (others ≡ Ok tt)
@@ -41,25 +48,10 @@ module _ (states i : ℕ) (es : List Entry) (table : List (Option Entry)) (d : E
       = ap (λ r. built (judged r i (tabling states (i + 1) (drop (i + 1) es))) (filled (drop (i + 1) es) (entered (get_or es i d) table))) t in
       (sym g ∙ sym f ∙ b.0, sound_set states table (place (get_or es i d).control (get_or es i d).read) (get_or es i d) t b.1, length-set table (place (get_or es i d).control (get_or es i d).read) (Some (get_or es i d)) ∙ b.2)
 
-  -- or it is the first bad one
-  pub built_bad : (r : Refusal) → setting states (get_or es i d) ≡ Err r → Built states i es table → Err (record { index = i; refusal = r }) ≡ rest_of states 0 es empty
-  built_bad r t b =
-      let e = drop_more es i d h in
-      let f : rest_of states i (drop i es) table ≡ rest_of states i (get_or es i d ∷ drop (i + 1) es) table = ap (λ s. rest_of states i s table) e in
-      let g : rest_of states i (get_or es i d ∷ drop (i + 1) es) table ≡ Err (record { index = i; refusal = r })
-      = ap (λ r. built (judged r i (tabling states (i + 1) (drop (i + 1) es))) (filled (drop (i + 1) es) (entered (get_or es i d) table))) t in
-      sym g ∙ sym f ∙ b.0
-
--- all were taken
-pub built_all : (states i : ℕ) (es : List Entry) (table : List (Option Entry)) → length es ≤ i → Built states i es table → Ok table ≡ rest_of states 0 es empty
-built_all states i es table h b = ap (λ s. rest_of states i s table) (sym (drop_all i es h)) ∙ b.0
-
--- a lawful state with a symbol in a cell
-pub marked_lawful : (states cell symbol : ℕ) (x : List ℕ) → states ≤ 16 → symbol < 4 → lawful states x ≡ true → lawful states (words (marked cell symbol (configuration x))) ≡ true
-marked_lawful states cell symbol x few small h =
-    let g = held states x (parts states x h) in
-    words_lawful states (marked cell symbol (configuration x)) few
-    (record { control = g.control; head = g.head; cells = All-set (λ s. s < 4) (configuration x).cells cell symbol small g.cells })
+  -- and it is at its place after a call that took it
+  pub built_after : (r : Result (Unit {0}) Refusal) (next : List (Option Entry)) → r ≡ setting states (get_or es i d) → is_ok r ≡ true → next ≡ after r (get_or es i d) table → Built states i es table → Built states (i + 1) es next
+  built_after (Ok done) next t o n b = rw n (built_more (sym t) b)
+  built_after (Err refusal) next t o n b = absurd (false≢true o)
 
 -- what a table gives once an entry is set
 module _ (states : ℕ) (few : states ≤ 16) (control symbol : ℕ) (h : symbol < 4) where

@@ -5,7 +5,7 @@ use Rattle.std.specs.Simd.Lanes.{number_l}
 use Rattle.machine.specs.Machines.{Words}
 use Rattle.std.specs.List.{flat_map, AllByRecursion}
 use Rattle.std.proofs.ByRecursion.{All-append, All-drop}
-use Rattle.std.proofs.lemmas.List.{get_or_append_left, get_or-append_right, set-append_left, set-append_right, take_at, drop_at, length-append}
+use Rattle.std.proofs.lemmas.List.{length-append, get_or_append_left, get_or-append_right, set-append_left, set-append_right, take_at, drop_at}
 use Rattle.tape.specs.Symbols.{digit_at, digit_set, number_digits, digits_small, number_small}
 use Rattle.tape.specs.Layout.{symbols, packed}
 

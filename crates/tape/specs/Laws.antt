@@ -22,7 +22,7 @@ use Rattle.tape.specs.declared.entry.Move.TheVariants.{Left, Right, Stay}
 pub broad_by : (1 ≤ wide) × (wide ≤ 32)
 broad_by = (omega arith, omega arith)
 
-words_fit : (x : List ℕ) → fit x ≡ true → Words x
+pub words_fit : (x : List ℕ) → fit x ≡ true → Words x
 words_fit [] h = tt
 words_fit (w ∷ ws) h = let p = and_parts (nat_lt w (2 ^ 32)) (fit ws) h in (ltb-true w (2 ^ 32) p.0, words_fit ws p.1)
 

@@ -1,9 +1,10 @@
 -- Tables: which entries are taken, what a table holds once they are, and how the first bad one is told.
-use Rattle.std.specs.Prelude.{◌≡◌, ℕ, ◌+◌, ◌<◌, Bool, true, cond, ◌&&◌, List, [], ◌∷◌, replicate, is_ok, Some, None, Ok, Err, Option, Result, ◌==◌, nat_le, nat_lt, slice_set}
+use Rattle.std.specs.Prelude.{◌≡◌, ℕ, ◌+◌, ◌<◌, Bool, true, cond, ◌&&◌, List, [], ◌∷◌, ◌++◌, codes, decimal, replicate, is_ok, Some, None, Ok, Err, Option, Result, ◌==◌, nat_le, nat_lt, slice_set}
 use Rattle.tape.specs.Layout.{known}
 use Rattle.tape.specs.Turing.{place, found}
 use Rattle.tape.specs.declared.entry.BadEntry.{BadEntry}
 use Rattle.tape.specs.declared.entry.Entry.{Entry}
+use Rattle.terms.specs.Refusals.{refusal_text}
 use Rattle.terms.specs.declared.Refusal.{Refusal}
 use Rattle.terms.specs.declared.Refusal.TheVariants.{NoControl, BadSymbol}
 
@@ -60,6 +61,10 @@ latest (e ∷ es) control symbol before = latest es control symbol (cond (e.cont
 -- a table gives for each control state and symbol the last of some entries, or else what the table before gave
 abbrev pub Gives : List Entry → List (Option Entry) → List (Option Entry) → Type 0
 Gives es before table = (control symbol : ℕ) → symbol < 4 → found table control symbol ≡ latest es control symbol (found before control symbol)
+
+-- how the first bad entry is printed: `entry 3 is refused: 34`
+abbrev pub bad_entry_text : BadEntry → List ℕ
+bad_entry_text bad = codes "entry " ++ (decimal bad.index ++ (codes " is refused: " ++ refusal_text bad.refusal))
 
 -- a table, where all its entries are taken
 abbrev pub built : Result (Unit {0}) BadEntry → List (Option Entry) → Result (List (Option Entry)) BadEntry

@@ -18,7 +18,7 @@ table t = t.entries
 
 -- the words of the state
 abbrev pub state : Tape → List ℕ
-state t = t.memory
+state t = t.memory.words
 
 -- the configuration of the state
 abbrev pub held : Tape → Configuration

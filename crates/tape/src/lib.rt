@@ -4,5 +4,5 @@
 mod entry;
 mod tape;
 
-pub use entry::{BadEntry, Entry, Move};
+pub use entry::{BadEntry, Entry, Move, REST};
 pub use tape::Tape;

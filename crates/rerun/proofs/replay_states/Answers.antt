@@ -7,18 +7,18 @@ use Rattle.rerun.proofs.replay_states.Goals as goal
 
 pub tell-requires : goal.tell-requires
 tell-requires g c =
-    room_more c.loop-scan._scan c.total-total.result g.M.Machine.wide (vec_len c.loop-scan.states) (vec_capacity c.loop-scan.states)
+    room_more c.loop-scan._scan c.total-total.result g.M.Machine.W (vec_len c.loop-scan.states) (vec_capacity c.loop-scan.states)
     c.loop-scan-test.true c.loop-scan.invariant.5 c.loop-scan.invariant.6
 
 pub loop-scan-preserved : goal.loop-scan-preserved
 loop-scan-preserved g c =
     let i : ℕ = c.loop-scan._scan in
-    let w : ℕ = g.M.Machine.wide in
+    let w : ℕ = g.M.Machine.W in
     let ss : List Sample = g.S.Source.scans c.args.source.now in
     let x : List ℕ = g.M.Machine.state c.args.machine.now in
     let next : List ℕ → ℕ → List ℕ = g.M.Machine.next c.args.machine.now in
     let l : i < length ss = omega arith in
-    let on = walks_on next x ss (g.S.Source.rising c.args.source.now) i l c.loop-scan.place c.loop-scan.invariant.0 (g.M.Machine.state c.loop-scan.machine) c.loop-scan.invariant.1 in
+    let on = walks_on next x ss (g.met.S.Source.rising c.args.source.now) i l c.loop-scan.place c.loop-scan.invariant.0 (g.M.Machine.state c.loop-scan.machine) c.loop-scan.invariant.1 in
     let rule = c.loop-scan.invariant.2 in
     let told = c.loop-scan.invariant.4 in
     let moves = c.advance-place.ensures.state in

@@ -10,5 +10,5 @@ invariant-loop-scan g l =
     × (g.M.Machine.next l.machine ≡ g.M.Machine.next l.initial.machine)
     × (g.M.Machine.lawful l.machine ≡ g.M.Machine.lawful l.initial.machine)
     × (vec_items l.states ≡ told (g.M.Machine.next l.initial.machine) (g.M.Machine.state l.initial.machine) (inputs (g.S.Source.scans l.source)) l._scan)
-    × (vec_len l.states ≡ l._scan * g.M.Machine.wide)
-    × (l.total * g.M.Machine.wide ≤ vec_capacity l.states)
+    × (vec_len l.states ≡ l._scan * g.M.Machine.W)
+    × (l.total * g.M.Machine.W ≤ vec_capacity l.states)

@@ -1,12 +1,9 @@
-use Rattle.std.proofs.Common.{false, get_or, arith, length-set}
+use Rattle.std.proofs.Common.{◌≡◌, false, rules, slice_index_or}
 use Rattle.row.specs.Cells.{bit, outcome, lower, higher}
-use Rattle.row.proofs.Stepping.{filled}
+use Rattle.row.proofs.Made.{made_at}
 use Rattle.row.proofs.advanced.Goals as goal
 
-pub loop-c-preserved : goal.loop-c-preserved
-loop-c-preserved c = (
-  simp length-set c.loop-c.invariant.0,
-  filled c.loop-c.cells c.loop-c.c c.successor.result
-      (λ k. outcome c.args.rule (bit (get_or c.args.old.now (lower k) false)) (bit (get_or c.args.old.now k false)) (bit (get_or c.args.old.now (higher k) false)))
-      (omega (arith, c.loop-c.invariant.0)) c.loop-c.invariant.1 c.successor.ensures,
-)
+pub returns-clause-places : goal.returns-clause-places
+returns-clause-places c k h =
+    made_at _ _ 256 (λ i y. bit y ≡ outcome c.args.rule (bit (slice_index_or c.args.old.now (lower i) false)) (bit (slice_index_or c.args.old.now i false)) (bit (slice_index_or c.args.old.now (higher i) false)))
+    (λ i y q l s. search rules) _ c.from_fn.ensures.items k false h

@@ -7,18 +7,16 @@ ghost use Rattle.tape.specs.Tapes.{states, table, state, held, next as following
 ghost use Rattle.tape.specs.Laws.{sized_by, goes_by, reads_by, broad_by};
 ghost use Rattle.std.specs.Prelude.{◌≡◌, length};
 
-use crate::Tape;
-use crate::tape::WORDS;
-use crate::tape::memory::{CELLS, REST, act, feed, symbol};
+use crate::tape::memory::{CELLS, WORDS};
+use crate::tape::place;
+use crate::{REST, Tape};
 use machine::Machine;
 use terms::Refusal;
 
 impl Machine for Tape {
     const W: usize = WORDS;
 
-    ghost wide = { wide };
-
-    ghost broad = { broad_by };
+    ghost W = { wide };
 
     ghost state = { state };
 
@@ -26,18 +24,7 @@ impl Machine for Tape {
 
     ghost lawful = { λ t. lawful (states t) };
 
-    ghost present = { λ t. t.law };
-
-    ghost sized = { λ t. sized_by (states t) };
-
-    ghost goes = { λ t. goes_by (states t) (table t) t.few t.good };
-
-    ghost reads = { λ t. reads_by (table t) };
-
-    fn width() -> usize {
-        Self::W
-    }
-
+    #[tactic(auto, using(crate::proofs::Rules::of_step))]
     fn step(&mut self, input: u32)
         ensures moves { state self.new ≡ following (table self.old) (state self.old) input }
         ensures rule { following (table self.new) ≡ following (table self.old) }
@@ -47,16 +34,16 @@ impl Machine for Tape {
         ensures near { Near (held self.old) (held self.new) }
         ensures resting { Resting input (held self.old) (held self.new) }
     {
-        let mut words = self.memory;
-        feed(&mut words, input);
-        if words[0] != REST {
-            let seen = symbol(&words, words[1]);
-            let entry = self.entries[(4 * words[0] + seen) as usize];
-            act(&mut words, entry);
+        self.memory.feed(input);
+        let control = self.memory.control();
+        if control != REST {
+            let seen = self.memory.scanned();
+            let entry = self.entries[place(control, seen)];
+            self.memory.act(entry);
         }
-        self.memory = words;
     }
 
+    #[tactic(auto, using(crate::proofs::Steps::located))]
     fn save(&self, buffer: &mut [u32]) -> Result<(), Refusal>
         ensures value { result ≡ saving wide (length buffer.old) }
         ensures after { buffer.new ≡ saved wide (state self.now) buffer.old }
@@ -65,7 +52,7 @@ impl Machine for Tape {
         if buffer.len() != WORDS {
             return Err(Refusal::WrongLength);
         }
-        buffer.copy_from_slice(&self.memory);
+        buffer.copy_from_slice(&self.memory.words);
         Ok(())
     }
 
@@ -77,9 +64,17 @@ impl Machine for Tape {
         if (control >= self.count && control != REST) || words[1] >= CELLS {
             return Err(Refusal::Unlawful);
         }
-        let mut memory = [0; WORDS];
-        memory.copy_from_slice(words);
-        self.memory = memory;
+        self.memory.load(words);
         Ok(())
     }
+
+    ghost broad = { broad_by };
+
+    ghost present = { λ t. t.law };
+
+    ghost sized = { λ t. sized_by (states t) };
+
+    ghost goes = { λ t. goes_by (states t) (table t) t.few t.good };
+
+    ghost reads = { λ t. reads_by (table t) };
 }

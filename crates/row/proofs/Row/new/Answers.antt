@@ -1,7 +1,7 @@
-use Rattle.std.proofs.Common.{refl, arith}
+use Rattle.std.proofs.Common.{refl}
 use Rattle.row.specs.Cells.{bits, words}
 use Rattle.row.proofs.Row.new.Goals as goal
 
-pub returns : goal.returns
+pub returns-clause-zeros : goal.returns-clause-zeros
 unfolding bits words
-returns c = (omega arith, refl, refl)
+returns-clause-zeros c = refl

@@ -1,20 +1,14 @@
-use Rattle.std.proofs.Common.{refl, inl, inr}
+use Rattle.std.proofs.Common.{inl, inr, arith}
 use Rattle.row.proofs.Stepping.{given_set, given_none}
 use Rattle.row.proofs.Row.write.Goals as goal
-use Rattle.row.proofs.Row.write.Goals.{then-address-lt1-via-then-address-lt1, then-address-lt1-via-else-address-lt1+then-address-gt256}
 
-pub returns-then-address-lt1 : goal.returns-then-address-lt1
-returns-then-address-lt1 c = record {
-  places = given_none c.args.self.now.cells c.args.input
-      (elim c.then-address-lt1.branch [
-        | then-address-lt1-via-then-address-lt1 w ↦ inl w.if-address-lt1.true
-        | then-address-lt1-via-else-address-lt1+then-address-gt256 w ↦ inr w.if-address-gt256.true
-      ]);
-  rule = refl;
-}
+pub returns-then-address-lt1-clause-places : goal.returns-then-address-lt1-clause-places
+returns-then-address-lt1-clause-places c = given_none c.args.self.now.cells c.args.input (inl (omega arith))
 
-pub returns : goal.returns
-returns c = record {
-  places = given_set c.args.self.now.cells c.args.input c.args.self.now.ring c.if-address-lt1.false c.if-address-gt256.false;
-  rule = refl;
-}
+pub returns-in-1-to-256-clause-places : goal.returns-in-1-to-256-clause-places
+returns-in-1-to-256-clause-places c =
+    rw (c.address-address.ensures, c.value-value.ensures)
+    (given_set c.args.self.now.cells c.args.input c.args.self.now.ring (omega arith) (omega arith))
+
+pub returns-else-address-lt257-clause-places : goal.returns-else-address-lt257-clause-places
+returns-else-address-lt257-clause-places c = given_none c.args.self.now.cells c.args.input (inr (omega arith))

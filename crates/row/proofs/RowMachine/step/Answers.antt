@@ -9,9 +9,9 @@ use Rattle.row.proofs.RowMachine.step.Goals as goal
 pub returns : goal.returns
 returns c =
     let old : List ℕ = packed c.args.self.now.cells in
-    let moves : packed c.advanced-cells.result ≡ next c.args.self.now.rule old c.args.input =
-    step_packed c.write.new.self.rule c.args.self.now.cells c.write.new.self.cells c.advanced-cells.result c.args.input
-    c.write.ensures.places c.advanced-cells.ensures.places
+    let moves : packed c.advanced-self.result ≡ next c.args.self.now.rule old c.args.input =
+    step_packed c.write.new.self.rule c.args.self.now.cells c.write.new.self.cells c.advanced-self.result c.args.input
+    c.write.ensures.places c.advanced-self.ensures.places
     ∙ ap (λ (r : ℕ). next r old c.args.input) c.write.ensures.rule in
     record {
       moves = moves;

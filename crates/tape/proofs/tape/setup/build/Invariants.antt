@@ -1,5 +1,0 @@
-use Rattle.tape.proofs.Settings.{Built}
-use Rattle.tape.proofs.tape.setup.build.Given as goal
-
-abbrev pub invariant-loop-index : goal.invariant-loop-index
-invariant-loop-index l = Built l.count l.index l.entries l.places
