@@ -1,26 +1,10 @@
--- What is handed out at the cursor, and what is read at a place.
-use Rattle.std.proofs.Common.{◌≡◌, ℕ, zero, suc, ◌+◌, ◌<◌, ◌≤◌, Bool, true, false, cond, ◌||◌, eqb, List, [], ◌∷◌, length, get_or, drop, Some, None, Option, sym, refl, ap, ◌∙◌, zero-add, arith}
-use Rattle.std.proofs.lemmas.Bool.{true≢false, false≢true, eq-eqb, ne_eqb, cond-true, cond-false}
+-- What is read at a place of a recording.
+use Rattle.std.proofs.Common.{◌≡◌, ℕ, zero, suc, ◌+◌, ◌<◌, ◌≤◌, Bool, true, false, cond, eqb, List, [], ◌∷◌, length, get_or, drop, Some, None, Option, sym, refl, ap, ◌∙◌, zero-add, arith}
+use Rattle.std.proofs.lemmas.Bool.{false≢true, eq-eqb, ne_eqb, cond-true, cond-false}
 use Rattle.source.specs.Scans.{Sample, Above, first, reading}
 use Rattle.terms.specs.declared.Place.{Place}
-use Rattle.recording.specs.Format.{Item, scan, mark, content, is_scan, is_mark, items_from, mores, samples, samples_from}
+use Rattle.recording.specs.Format.{content, is_scan, samples, samples_from}
 use Rattle.recording.specs.Laws.{samples_above}
-use Rattle.recording.specs.Reading.{head, tail}
-use Rattle.recording.proofs.Passing.{scan_at, mark_at}
-
--- the items of taken words from a cursor on
-abbrev pub from : Bool → ℕ → List ℕ → List Item
-from taken cursor ws = cond taken (items_from cursor (drop cursor ws)) []
-
--- an item x stands at `at`, nothing before it, and `next` is behind it
-pub hands_one : (taken : Bool) (ws : List ℕ) (cursor at next : ℕ) (x : Item) → taken ≡ true → items_from at (drop at ws) ≡ items_from cursor (drop cursor ws) → items_from at (drop at ws) ≡ x ∷ items_from next (drop next ws) → (Some x ≡ head (from taken cursor ws)) × (from taken next ws ≡ tail (from taken cursor ws))
-hands_one true ws cursor at next x e s f = (sym (ap head (sym s ∙ f)), sym (ap tail (sym s ∙ f)))
-hands_one false ws cursor at next x e s f = absurd (false≢true e)
-
--- nothing stands from the cursor on
-pub hands_none : (taken : Bool) (ws : List ℕ) (cursor at : ℕ) → taken ≡ true → items_from at (drop at ws) ≡ items_from cursor (drop cursor ws) → items_from at (drop at ws) ≡ [] → (None ≡ head (from taken cursor ws)) × (from taken at ws ≡ tail (from taken cursor ws))
-hands_none true ws cursor at e s f = (sym (ap head (sym s ∙ f)), f ∙ sym (ap tail (sym s ∙ f)))
-hands_none false ws cursor at e s f = absurd (false≢true e)
 
 -- below all places nothing is read
 pub reads_below : (low place : ℕ) (ss : List Sample) → Above low ss → place ≤ low → reading ss place ≡ None
@@ -84,23 +68,3 @@ reads_other false ws k h s = refl
 pub reads_behind : (taken : Bool) (ws : List ℕ) (k : ℕ) → length ws ≤ k → reading (cond taken (samples ws) []) k ≡ None
 reads_behind true ws k h = reads_past 0 k ws (omega arith)
 reads_behind false ws k h = refl
-
--- the other of two tests
-pub other : (x y : Bool) → (x || y) ≡ true → x ≡ false → y ≡ true
-other true y e f = absurd (true≢false f)
-other false y e f = e
-
--- a mark at `at`, and `next` behind its more words
-pub mark_full : (ws : List ℕ) (at next c : ℕ) (more : List ℕ) → at < length ws → is_scan (get_or ws at 0) ≡ false → (is_scan (get_or ws at 0) || is_mark (get_or ws at 0)) ≡ true → c ≡ content (get_or ws at 0) → more ≡ mores (drop (at + 1) ws) → items_from next (drop next ws) ≡ items_from (at + 1) (drop (at + 1) ws) → items_from at (drop at ws) ≡ mark at c more ∷ items_from next (drop next ws)
-mark_full ws at next c more h s found ec em en =
-    mark_at ws at h s (other (is_scan (get_or ws at 0)) (is_mark (get_or ws at 0)) found s)
-    ∙ (ap (λ (n : ℕ). mark at n (mores (drop (at + 1) ws)) ∷ items_from (at + 1) (drop (at + 1) ws)) (sym ec)
-    ∙ (ap (λ (m : List ℕ). mark at c m ∷ items_from (at + 1) (drop (at + 1) ws)) (sym em)
-    ∙ ap (λ (rest : List Item). mark at c more ∷ rest) (sym en)))
-
-pub scan_full : (ws : List ℕ) (at c : ℕ) → at < length ws → is_scan (get_or ws at 0) ≡ true → c ≡ content (get_or ws at 0) → items_from at (drop at ws) ≡ scan at c ∷ items_from (at + 1) (drop (at + 1) ws)
-scan_full ws at c h s ec = scan_at ws at h s ∙ ap (λ (n : ℕ). scan at n ∷ items_from (at + 1) (drop (at + 1) ws)) (sym ec)
-
-pub reads_untaken : (taken : Bool) (ws : List ℕ) (k : ℕ) → taken ≡ false → reading (cond taken (samples ws) []) k ≡ None
-reads_untaken true ws k e = absurd (true≢false e)
-reads_untaken false ws k e = refl

@@ -1,5 +1,5 @@
 -- The format of a recording: words and their kinds, what a reader hands out, and the check.
-use Rattle.std.specs.Prelude.{ℕ, ◌+◌, ◌*◌, ◌/◌, ◌%◌, ◌^◌, Bool, false, cond, not, ◌&&◌, ◌||◌, List, [], ◌∷◌, length, Some, None, Ok, Err, Option, Result, ◌==◌, nat_le}
+use Rattle.std.specs.Prelude.{ℕ, ◌+◌, ◌*◌, ◌/◌, ◌%◌, ◌^◌, Bool, false, cond, not, ◌&&◌, ◌||◌, List, [], ◌∷◌, length, drop, Some, None, Ok, Err, Option, Result, ◌==◌, nat_le}
 use Rattle.terms.specs.declared.Refusal.{Refusal}
 use Rattle.terms.specs.declared.Refusal.TheVariants.{TooLong, StrayMore, UnknownKind, WrongTotal, AfterEnd, NoEnd}
 use Rattle.source.specs.Scans.{Sample}
@@ -33,6 +33,10 @@ is_end w = kind w == 3
 abbrev pub is_unknown : ℕ → Bool
 is_unknown w = nat_le 4 (kind w) && nat_le (kind w) 7
 
+-- a scan or a mark
+abbrev pub is_item : ℕ → Bool
+is_item w = is_scan w || is_mark w
+
 -- 1 for a scan, 0 for any other word
 abbrev pub scanned : ℕ → ℕ
 scanned w = cond (is_scan w) 1 0
@@ -57,6 +61,10 @@ items_from i (w ∷ ws) =
 
 abbrev pub items : List ℕ → List Item
 items ws = items_from 0 ws
+
+-- those of the words from index i on
+abbrev pub items_at : List ℕ → ℕ → List Item
+items_at ws i = items_from i (drop i ws)
 
 -- the scans of words that begin at index i
 abbrev pub samples_from : ℕ → List ℕ → List Sample

@@ -1,10 +1,12 @@
 -- Laws of a recording's scans and items: places rise, and a taken recording has at most 999,999 scans.
-use Rattle.std.specs.Prelude.{◌≡◌, ℕ, ◌+◌, ◌%◌, ◌^◌, ◌<◌, ◌≤◌, Bool, true, false, cond, ◌||◌, List, [], ◌∷◌, length, is_ok, Some, None, Err, Option, nat_le, refl}
+use Rattle.std.specs.Prelude.{◌≡◌, ℕ, ◌+◌, ◌%◌, ◌^◌, ◌<◌, ◌≤◌, Bool, true, false, cond, ◌||◌, List, [], ◌∷◌, length, is_ok, is_some, Some, None, Ok, Err, Option, Result, nat_le, refl}
+use Rattle.std.specs.Option.{ForSome}
 use Rattle.std.proofs.Common.{arith}
 use Rattle.std.proofs.lemmas.Bool.{true≢false, false≢true, leb-true, eqb-true, ne_eqb}
 use Rattle.source.specs.Scans.{Sample, Above, Rising, most}
 use Rattle.terms.specs.declared.Refusal.{Refusal}
 use Rattle.terms.specs.declared.Refusal.TheVariants.{TooLong}
+use Rattle.recording.specs.Checking.{tallied}
 use Rattle.recording.specs.Format.{scan, mark, kind, content, is_scan, is_mark, is_end, scanned, mores, items, items_from, fault_at, walk, checked, longest, samples, samples_from}
 
 pub samples_above : (low i : ℕ) (ws : List ℕ) → low < i → Above low (samples_from i ws)
@@ -83,6 +85,18 @@ taken_walk ws h = by_length (nat_le (length ws) longest) h
 
 pub taken_few : (ws : List ℕ) → is_ok (checked ws) ≡ true → length (samples ws) ≤ most
 taken_few ws h = omega (arith, taken_short ws h, samples_few 0 0 false ws (taken_walk ws h))
+
+-- what the check tells of taken words is their number of scans
+pub tallied_ok : (ws : List ℕ) (n : ℕ) → tallied ws ≡ Ok n → (is_ok (checked ws) ≡ true) × (n ≡ length (samples ws))
+tallied_ok ws n e = by (checked ws) e
+  where
+    by : (o : Result (Unit {0}) Refusal) → elim o as (λ _. Result ℕ Refusal) [ Ok u ↦ Ok (length (samples ws)) | Err fault ↦ Err fault ] ≡ Ok n → (is_ok o ≡ true) × (n ≡ length (samples ws))
+    by (Ok u) h = (refl, cc)
+    by (Err f) h = cc
+
+pub total_taken : (total : Option ℕ) (ws : List ℕ) → ForSome total (λ n. tallied ws ≡ Ok n) → is_some total ≡ true → is_ok (checked ws) ≡ true
+total_taken (Some n) ws h t = (tallied_ok ws n (h n refl)).0
+total_taken None ws h t = absurd (false≢true t)
 
 -- the scans of words that stand for none until they are taken
 pub listed_few : (taken : Bool) (ws : List ℕ) → (taken ≡ true → is_ok (checked ws) ≡ true) → length (cond taken (samples ws) []) ≤ most

@@ -1,4 +1,5 @@
 pub mod Format
+pub mod Kinds
 pub mod Records
 pub mod Checking
 pub mod Laws

@@ -5,34 +5,37 @@ mod checking;
 mod finding;
 mod listing;
 mod reading;
+mod word;
 
-ghost use Rattle.std.specs.Prelude.{◌≡◌, ◌≤◌, true, [], length, is_ok, if◌then◌else◌};
-ghost use Rattle.recording.specs.Format.{checked, samples};
+ghost use Rattle.std.specs.Prelude.{◌≡◌, ◌≤◌, length, Ok};
+ghost use Rattle.std.specs.Option.{ForSome};
+ghost use Rattle.recording.specs.Checking.{tallied};
 
 use terms::Place;
+pub use word::{Kind, LONGEST, content_of, is_scan, word_of};
 
-// A reader over the caller's words. It stands for no scans until its check has taken them.
-#[derive(Drop)]
+/// A reader over the caller's words. It stands for no scans until its check has taken them.
+#[derive(Clone, Copy)]
 pub struct Reader<'a> {
+    // a rule of the project: recordings stay in the caller's words, no heap; an index, since read and rewind look at all of them
     words: &'a [u32],
     // the index from which the next item is looked for
     cursor: usize,
-    taken: bool,
-    // the number of scans, 0 until the words are taken
-    total: u32,
-    ghost sound: { taken ≡ true → is_ok (checked words.now) ≡ true },
-    ghost counted: { total ≡ length (if taken then samples words.now else []) },
+    // the number of scans, once the words are taken
+    total: Option<u32>,
+    ghost counted: { ForSome total (λ n. tallied words.now ≡ Ok n) },
     ghost within: { cursor ≤ length words.now },
 }
 
-// What a reader hands out.
+/// What a reader hands out.
 #[derive(Clone, Copy)]
 pub enum Item<'a> {
+    /// a scan with its input
     Scan {
         place: Place,
         input: u32,
     },
-    // with its more words, which are a part of the recording
+    /// a mark with its number and its more words, which are a part of the recording
     Mark {
         place: Place,
         number: u32,

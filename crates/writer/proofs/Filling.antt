@@ -65,9 +65,6 @@ pub record Filled (before words : List ℕ) (used : ℕ) (rest all : List Record
   pub many : used + length (spelling rest) ≡ length (spelling all)
   pub fine : AllFine rest
 
-pub filled_none : (ws : List ℕ) (all : List Record) → AllFine all → Filled ws ws 0 all all
-filled_none ws all h = record { front = refl; behind = refl; many = omega arith; fine = h }
-
 module _ (before words : List ℕ) (used : ℕ) (rest all : List Record) (f : Filled before words used rest all) where
   -- there is room for the next record
   pub filled_room : (r : Record) (next : List Record) → rest ≡ r ∷ next → (used + length (contents r) ≤ length (spelling all)) × (narrow (contents r) ≡ true)
@@ -118,14 +115,6 @@ pub record Filling (start writer : Writer) (rest all : List Record) : Type 0 whe
   pub unclosed : writer.closed ≡ false
   pub long : length writer.words.now ≡ length start.words.now
   pub lent : writer.words.ghost_name ≡ start.words.ghost_name
-
-pub filling_none : (w : Writer) (all : List Record) → w.used ≡ 0 → w.closed ≡ false → AllFine all → Filling w w all all
-filling_none w all u c h = record {
-  filled = subst (λ (k : ℕ). Filled w.words.now w.words.now k all all) (sym u) (filled_none w.words.now all h);
-  unclosed = c;
-  long = refl;
-  lent = refl;
-}
 
 length_over : (ws new : List ℕ) (i : ℕ) → i + length new ≤ length ws → length (over ws i new) ≡ length ws
 length_over ws new i h =

@@ -1,14 +1,14 @@
-use Rattle.std.proofs.Common.{sym, ◌∙◌, arith}
-use Rattle.recording.proofs.Passing.{first_at, first_past, first_none}
+use Rattle.std.proofs.Common.{◌≡◌, ℕ, List, Option, ◌+◌, drop, ap, ◌∙◌, rules}
+use Rattle.std.specs.List.{position}
+use Rattle.std.specs.Option.{option_map}
+use Rattle.terms.specs.declared.Place.{Place}
+use Rattle.recording.specs.Format.{is_scan}
+use Rattle.recording.proofs.Passing.{rest_of, first_to}
 use Rattle.recording.proofs.finding.next_scan.Goals as goal
 
-pub returns-then-is_scan : goal.returns-then-is_scan
-returns-then-is_scan c =
-    sym (first_at c.args.words.now c.loop-i.i (omega arith) (sym c.is_scan.ensures ∙ c.if-is_scan.true)) ∙ c.loop-i.invariant
-
-pub loop-i-preserved : goal.loop-i-preserved
-loop-i-preserved c =
-    sym (first_past c.args.words.now c.loop-i.i (omega arith) (sym c.is_scan.ensures ∙ c.if-is_scan.false)) ∙ c.loop-i.invariant
-
 pub returns : goal.returns
-returns c = sym (first_none c.args.words.now c.loop-i.i (omega arith)) ∙ c.loop-i.invariant
+returns c =
+    let further : c.map.result ≡ option_map {U = Place} (λ k. record { 0 = c.args.from + k }) c.before_scan.result = search rules in
+    further
+    ∙ (ap (λ (o : Option ℕ). option_map {U = Place} (λ k. record { 0 = c.args.from + k }) o) (c.before_scan.ensures ∙ ap (λ (xs : List ℕ). position is_scan xs) (rest_of c.args.words.now c.args.from))
+    ∙ first_to c.args.from (drop c.args.from c.args.words.now))

@@ -1,36 +1,28 @@
-use Rattle.std.proofs.Common.{ℕ, map, sym, refl, ap, ◌∙◌, subst, arith}
-use Rattle.std.proofs.lemmas.Bool.{false≢true}
-use Rattle.std.proofs.lemmas.Result.{err_from_is_err_and}
+use Rattle.std.proofs.Common.{◌≡◌, List, map, length, refl, sym, ap, ◌∙◌, subst, arith, rules}
+use Rattle.recording.specs.Records.{AllFine, closed}
 use Rattle.writer.specs.Trips.{ReadsBack}
-use Rattle.writer.specs.Writing.{told, writing}
+use Rattle.writer.specs.Writing.{told, writing, over}
+use Rattle.writer.specs.declared.records.Record.{Record}
 use Rattle.writer.proofs.Returning.{busy_told, writing_narrow, writing_used, reads_back}
 use Rattle.writer.proofs.lists.write_all.Goals as goal
 
-pub returns-in_err-used : goal.returns-in_err-used
-returns-in_err-used c =
-    let p = err_from_is_err_and c.from_residual.result c.from_residual.ensures.1 in
-    rw (p.1, p.2) (record {
-      value = c.in_err-used.ensures ∙ ap (λ (n : ℕ). writing n 0 (map told c.args.records.now)) c.usable.ensures;
-      words = refl;
-      back = tt;
-    })
-
 pub fill-requires : goal.fill-requires
 fill-requires c =
-    let fine = writing_narrow c.args.records.now c.usable.result 0 c.in_ok-used.used c.in_ok-used.ensures in
-    let used = writing_used (map told c.args.records.now) c.usable.result c.in_ok-used.used fine c.in_ok-used.ensures in
-    record { room = omega (arith, used.0, used.1, c.usable.ensures); few = omega (arith, used.0, used.1, c.usable.ensures); fine = fine }
+    let first : c.iter.result.rest.now ≡ c.args.records.now = search rules in
+    let again : c.iter-2.result.rest.now ≡ c.args.records.now = search rules in
+    let ok = c.in_ok-used.ensures ∙ ap (λ (ds : List Record). writing c.usable.result 0 (map told ds)) first in
+    let fine = writing_narrow c.args.records.now c.usable.result 0 c.in_ok-used.used ok in
+    let used = writing_used (map told c.args.records.now) c.usable.result c.in_ok-used.used fine ok in
+    let long = ap (λ (ds : List Record). length (closed (map told ds))) again in
+    λ k. ((refl, tt), (omega (arith, long, used.0, used.1, c.usable.ensures), (omega (arith, long, used.0, used.1, c.usable.ensures), subst (λ (ds : List Record). AllFine (map told ds)) (sym again) fine)))
 
-pub returns : goal.returns
-returns c =
-    let fine = writing_narrow c.args.records.now c.usable.result 0 c.in_ok-used.used c.in_ok-used.ensures in
-    let used = writing_used (map told c.args.records.now) c.usable.result c.in_ok-used.used fine c.in_ok-used.ensures in
-    record {
-      value = c.in_ok-used.ensures ∙ ap (λ (n : ℕ). writing n 0 (map told c.args.records.now)) c.usable.ensures;
-      words = c.fill.ensures.words;
-      back = subst (ReadsBack (map told c.args.records.now) c.in_ok-used.used) (sym c.fill.ensures.words)
-          (reads_back (map told c.args.records.now) c.in_ok-used.used c.args.words.now fine (busy_told c.args.records.now) used.0 (omega (arith, used.1, c.usable.ensures)));
-    }
-
-pub returns-in_err-fill : goal.returns-in_err-fill
-returns-in_err-fill c = absurd (false≢true c.in_err-fill.ensures.value)
+pub returns-clause-back : goal.returns-clause-back
+returns-clause-back c =
+    let first : c.iter.result.rest.now ≡ c.args.records.now = search rules in
+    let again : c.iter-2.result.rest.now ≡ c.args.records.now = search rules in
+    let ok = c.in_ok-used.ensures ∙ ap (λ (ds : List Record). writing c.usable.result 0 (map told ds)) first in
+    let fine = writing_narrow c.args.records.now c.usable.result 0 c.in_ok-used.used ok in
+    let used = writing_used (map told c.args.records.now) c.usable.result c.in_ok-used.used fine ok in
+    let whole = c.fill.ensures.words ∙ ap (λ (ds : List Record). over c.args.words.now 0 (closed (map told ds))) again in
+    subst (ReadsBack (map told c.args.records.now) c.in_ok-used.used) (sym whole)
+    (reads_back (map told c.args.records.now) c.in_ok-used.used c.args.words.now fine (busy_told c.args.records.now) used.0 (omega (arith, used.1, c.usable.ensures)))

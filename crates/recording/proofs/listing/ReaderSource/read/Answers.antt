@@ -1,26 +1,30 @@
-use Rattle.std.proofs.Common.{ℕ, Bool, List, get_or, Some, Option, sym, ap, ◌∙◌}
+use Rattle.std.proofs.Common.{◌≡◌, ℕ, ◌<◌, ◌≤◌, false, true, length, List, get_or, Some, Option, sym, ap, ◌∙◌, rules}
 use Rattle.terms.specs.declared.Place.{Place}
-use Rattle.recording.specs.Format.{content}
-use Rattle.recording.proofs.Handing.{reads_taken, reads_untaken, reads_other, reads_behind}
+use Rattle.recording.specs.Format.{content, is_scan}
+use Rattle.recording.specs.Reading.{taken}
+use Rattle.recording.proofs.Handing.{reads_taken, reads_other, reads_behind}
 use Rattle.recording.proofs.listing.ReaderSource.read.Goals as goal
-use Rattle.recording.proofs.listing.ReaderSource.read.Goals.{then-not-self-via-then-not-self, then-not-self-via-else-not-self+then-at-self, then-not-self-via-else-not-self+else-at-self+then-not-is_scan}
 
-pub returns-then-not-self : goal.returns-then-not-self
-returns-then-not-self c =
-    let taken : Bool = c.args.self.now.taken in
-    let ws : List ℕ = c.args.self.now.words.now in
-    let k : ℕ = c.args.place.0 in
-    elim c.then-not-self.branch [
-      | then-not-self-via-then-not-self w ↦ sym (reads_untaken taken ws k w.if-not-self.true)
-      | then-not-self-via-else-not-self+then-at-self w ↦ sym (reads_behind taken ws k w.if-at-self.true)
-      | then-not-self-via-else-not-self+else-at-self+then-not-is_scan w ↦
-          sym (reads_other taken ws k w.if-at-self.false (sym w.is_scan.ensures ∙ w.if-not-is_scan.true))
-    ]
+pub returns-in_err-word : goal.returns-in_err-word
+returns-in_err-word c =
+    let past : length c.args.self.now.words.now ≤ c.args.place.0 = search rules in
+    c.from_residual-in_err-word.ensures ∙ sym (reads_behind (taken c.args.self.now) c.args.self.now.words.now c.args.place.0 past)
+
+pub returns-then-not-is_scan : goal.returns-then-not-is_scan
+returns-then-not-is_scan c =
+    let within : c.args.place.0 < length c.args.self.now.words.now = search rules in
+    let word : get_or c.args.self.now.words.now c.args.place.0 0 ≡ c.in_ok-word.field-0.now = search rules in
+    let no : is_scan (get_or c.args.self.now.words.now c.args.place.0 0) ≡ false = ap is_scan word ∙ (sym c.is_scan.ensures ∙ c.if-not-is_scan.true) in
+    sym (reads_other (taken c.args.self.now) c.args.self.now.words.now c.args.place.0 within no)
 
 pub returns : goal.returns
 returns c =
     let ws : List ℕ = c.args.self.now.words.now in
     let k : ℕ = c.args.place.0 in
-    ap (λ (n : ℕ). Some (n, c.next_scan.result)) c.content_of.ensures
+    let within : k < length c.args.self.now.words.now = search rules in
+    let word : get_or c.args.self.now.words.now c.args.place.0 0 ≡ c.in_ok-word.field-0.now = search rules in
+    let is : is_scan (get_or ws k 0) ≡ true = ap is_scan word ∙ (sym c.is_scan.ensures ∙ c.if-not-is_scan.false) in
+    let took : taken c.args.self.now ≡ true = search rules in
+    ap (λ (n : ℕ). Some (n, c.next_scan.result)) (c.content_of.ensures ∙ sym (ap content word))
     ∙ (ap (λ (p : Option Place). Some (content (get_or ws k 0), p)) c.next_scan.ensures
-    ∙ sym (reads_taken c.args.self.now.taken ws k c.if-not-self.false c.if-at-self.false (sym c.is_scan.ensures ∙ c.if-not-is_scan.false)))
+    ∙ sym (reads_taken (taken c.args.self.now) ws k took within is))
