@@ -1,7 +1,9 @@
 -- Lines of text that stand for records: `scan` and an input, `mark` with a number and its more words, in hexadecimal.
-use Rattle.std.specs.Prelude.{◌≡◌, ℕ, ◌+◌, ◌-◌, ◌*◌, ◌^◌, Bool, true, cond, ◌&&◌, ◌||◌, List, [], ◌∷◌, ◌++◌, length, drop, Some, None, Ok, Err, vec_items, Option, Result, ◌==◌, nat_le, nat_lt, slice_index}
+use Rattle.std.specs.Prelude.{◌≡◌, ℕ, ◌+◌, Bool, ◌&&◌, ◌||◌, List, [], ◌∷◌, ◌++◌, length, take, drop, Some, None, Ok, Err, vec_items, Option, Result, MatchResult, ◌==◌, slice_index, codes, if◌then◌else◌}
 use Rattle.std.specs.Global.{Vec}
-use Rattle.std.specs.Option.{option_map, option_to_list}
+use Rattle.std.specs.List.{list_all, slice_split}
+use Rattle.std.specs.Str.{bytes_eq}
+use Rattle.text.specs.Numbers.{number}
 use Rattle.recordtext.specs.declared.Fault.{Fault}
 use Rattle.recordtext.specs.declared.Fault.TheVariants.{Bad, NoMemory}
 use Rattle.recordtext.specs.declared.Line as declared
@@ -11,28 +13,19 @@ use Rattle.recordtext.specs.declared.Line.TheVariants as the
 abbrev pub blank : ℕ → Bool
 blank b = b == 32 || (b == 9 || b == 13)
 
-abbrev pub all_blank : List ℕ → Bool
-all_blank [] = true
-all_blank (b ∷ bs) = blank b && all_blank bs
+-- a piece behind the numbers before it; an empty one adds nothing, and one that is no number below 2 ^ 32 leaves none
+abbrev pub added : List ℕ → List ℕ → Option (List ℕ)
+added ns [] = Some ns
+added ns (b ∷ bs) = elim (number 16 (b ∷ bs)) [ Some n ↦ Some (ns ++ (n ∷ [])) | None ↦ None ]
 
--- the value of a hexadecimal digit: 0 to 9, a to f, A to F
-abbrev pub digit : ℕ → Option ℕ
-digit b =
-    cond (nat_le 48 b && nat_le b 57) (Some (b - 48))
-    (cond (nat_le 97 b && nat_le b 102) (Some (b - 87))
-    (cond (nat_le 65 b && nat_le b 70) (Some (b - 55)) None))
+-- the numbers of pieces behind the numbers before them
+abbrev pub numbers_from : List ℕ → List (List ℕ) → Option (List ℕ)
+numbers_from ns [] = Some ns
+numbers_from ns (piece ∷ pieces) = elim (added ns piece) [ Some more ↦ numbers_from more pieces | None ↦ None ]
 
--- a number with one digit more behind it; none where it passes 32 bits
-abbrev pub grown : Option ℕ → ℕ → Option ℕ
-grown None b = digit b
-grown (Some n) b = cond (nat_lt n (2 ^ 28)) (option_map (λ d. n * 16 + d) (digit b)) None
-
--- the numbers of a text, blanks between them, where `begun` is the one that was begun before it
-abbrev pub numbers : Option ℕ → List ℕ → Option (List ℕ)
-numbers begun [] = Some (option_to_list begun)
-numbers begun (b ∷ bs) =
-    cond (blank b) (option_map (λ ns. option_to_list begun ++ ns) (numbers None bs))
-    (elim (grown begun b) [ Some n ↦ numbers (Some n) bs | None ↦ None ])
+-- the numbers of a text, blanks between them
+abbrev pub numbers : List ℕ → Option (List ℕ)
+numbers text = numbers_from [] (slice_split blank text)
 
 -- what a line stands for
 pub data Entry : Type 0 where
@@ -45,27 +38,29 @@ shown the.Blank = nothing
 shown (the.Scan input) = scan input
 shown (the.Mark number more) = mark number (vec_items more)
 
--- the text begins with these four letters and a blank
-abbrev pub begins : ℕ → ℕ → ℕ → ℕ → List ℕ → Bool
-begins a b c d text =
-    nat_le 5 (length text)
-    && (slice_index text 0 == a && (slice_index text 1 == b && (slice_index text 2 == c && (slice_index text 3 == d && blank (slice_index text 4)))))
+-- what follows a keyword and a blank at a text's start
+abbrev pub behind : List ℕ → List ℕ → Option (List ℕ)
+behind keyword text =
+    if bytes_eq (take (length keyword) text) keyword && blank (slice_index text (length keyword))
+    then Some (drop (length keyword + 1) text) else None
 
 -- one number is a scan's input; the first of several is a mark's number
 abbrev pub scan_of : Option (List ℕ) → Option Entry
 scan_of None = None
-scan_of (Some ns) = cond (length ns == 1) (Some (scan (slice_index ns 0))) None
+scan_of (Some ns) = if length ns == 1 then Some (scan (slice_index ns 0)) else None
 
 abbrev pub mark_of : Option (List ℕ) → Option Entry
 mark_of None = None
-mark_of (Some ns) = cond (length ns == 0) None (Some (mark (slice_index ns 0) (drop 1 ns)))
+mark_of (Some ns) = if length ns == 0 then None else Some (mark (slice_index ns 0) (drop 1 ns))
 
 -- a blank line stands for nothing; `scan` wants one number, `mark` one or more; any other line is bad
 abbrev pub line_of : List ℕ → Option Entry
 line_of text =
-    cond (all_blank text) (Some nothing)
-    (cond (begins 115 99 97 110 text) (scan_of (numbers None (drop 5 text)))
-    (cond (begins 109 97 114 107 text) (mark_of (numbers None (drop 5 text))) None))
+    if list_all blank text then Some nothing
+    else (elim (behind (codes "scan") text) [
+      | Some rest ↦ scan_of (numbers rest)
+      | None ↦ elim (behind (codes "mark") text) [ Some rest ↦ mark_of (numbers rest) | None ↦ None ]
+    ])
 
 -- what is read is this, where memory did not fail
 abbrev pub Reads : Option Entry → Result declared.Line Fault → Type 0
@@ -73,7 +68,16 @@ Reads entry (Ok line) = Some (shown line) ≡ entry
 Reads entry (Err Bad) = None ≡ entry
 Reads entry (Err NoMemory) = Unit {0}
 
+-- what a piece leaves is this, where memory did not fail
+abbrev pub Adds : Option (List ℕ) → List ℕ → Result (Unit {0}) Fault → Type 0
+Adds ns after result = MatchResult result (λ _. ns ≡ Some after) (λ e. e ≡ Bad → ns ≡ None)
+
 abbrev pub Numbers : Option (List ℕ) → Result (Vec ℕ) Fault → Type 0
 Numbers ns (Ok v) = Some (vec_items v) ≡ ns
 Numbers ns (Err Bad) = None ≡ ns
 Numbers ns (Err NoMemory) = Unit {0}
+
+-- how a fault is printed
+abbrev pub fault_text : Fault → List ℕ
+fault_text Bad = codes "neither a scan nor a mark"
+fault_text NoMemory = codes "no memory"

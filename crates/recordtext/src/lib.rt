@@ -3,13 +3,16 @@
 
 mod reading;
 
-ghost use Rattle.recordtext.specs.Lines.{line_of, scan_of, mark_of, Reads};
-ghost use Rattle.std.specs.Prelude.{Some};
+ghost use Rattle.recordtext.specs.Lines.{line_of, scan_of, mark_of, Reads, fault_text};
+ghost use Rattle.recordtext.specs.declared.Fault.TheVariants.{NoMemory};
+ghost use Rattle.std.specs.Prelude.{◌≡◌, Some};
 
-use reading::{all_blank, begins, read_numbers};
-use std::alloc::Global;
+use reading::{all_blank, behind, read_numbers};
+use std::alloc::{AllocFailed, Global};
+use std::error::Error;
+use std::fmt;
 
-// What a line stands for.
+/// What a line stands for.
 #[derive(Drop)]
 pub enum Line {
     Blank,
@@ -17,45 +20,66 @@ pub enum Line {
     Mark(u32, Vec<u32>),
 }
 
-// Why a line is not read.
-#[derive(Clone, Copy)]
+/// Why a line is not read.
+#[derive(Clone, Copy, PartialEq, Eq, Debug)]
 pub enum Fault {
     Bad,
     NoMemory,
 }
 
+impl fmt::Display for Fault {
+    ghost output = { λ fault. Some (fault_text fault) };
+
+    fn fmt<W: fmt::Write>(&self, f: &mut fmt::Formatter<W>) -> fmt::Result {
+        match self {
+            Fault::Bad => write!(f, "neither a scan nor a mark"),
+            Fault::NoMemory => write!(f, "no memory"),
+        }
+    }
+}
+
+impl Error for Fault {}
+
+// by hand: thiserror's has no contract, and the clauses say when memory fails
+impl<T: Drop> From<AllocFailed<T>> for Fault {
+    ghost from_gives = { λ _ r. r ≡ NoMemory };
+
+    fn from(_e: AllocFailed<T>) -> Self {
+        Self::NoMemory
+    }
+}
+
 fn scan_line(numbers: Vec<u32>) -> Result<Line, Fault>
     ensures { Reads (scan_of (Some numbers.items)) result }
 {
-    if numbers.len() == 1 {
-        Ok(Line::Scan(numbers[0]))
-    } else {
-        Err(Fault::Bad)
+    match numbers.as_slice() {
+        [input] => Ok(Line::Scan(*input)),
+        _ => Err(Fault::Bad),
     }
 }
 
 fn mark_line(mut numbers: Vec<u32>) -> Result<Line, Fault>
     ensures { Reads (mark_of (Some numbers.items)) result }
 {
-    if numbers.len() == 0 {
+    if numbers.is_empty() {
         return Err(Fault::Bad);
     }
     let number = numbers.remove(0);
     Ok(Line::Mark(number, numbers))
 }
 
-// What a line stands for, its end of line left out. Refused where it stands for nothing that is known, or for want of memory.
+/// What a line stands for, its end of line left out. Refused where it stands for nothing that is known, or for want of memory.
 pub fn parse(heap: Global, text: &[u8]) -> Result<Line, Fault>
     ensures { Reads (line_of text.now) result }
 {
     if all_blank(text) {
         return Ok(Line::Blank);
     }
-    if begins(text, b's', b'c', b'a', b'n') {
-        return scan_line(read_numbers(heap, &text[5..text.len()])?);
+    if let Some(rest) = behind(b"scan", text) {
+        return scan_line(read_numbers(heap, rest)?);
     }
-    if begins(text, b'm', b'a', b'r', b'k') {
-        return mark_line(read_numbers(heap, &text[5..text.len()])?);
+    if let Some(rest) = behind(b"mark", text) {
+        return mark_line(read_numbers(heap, rest)?);
     }
     Err(Fault::Bad)
 }

@@ -1,98 +1,53 @@
 // Numbers and keywords of a line.
-ghost use Rattle.recordtext.specs.Lines.{blank, all_blank, digit, grown, numbers, begins, Numbers};
-ghost use Rattle.recordtext.specs.declared.Fault.TheVariants.{NoMemory};
-ghost use Rattle.std.specs.Prelude.{◌≡◌, ◌++◌, None, MatchResult};
-ghost use Rattle.std.specs.Option.{option_to_list};
+ghost use Rattle.recordtext.specs.Lines.{blank, added, numbers, behind, Adds, Numbers};
+ghost use Rattle.std.specs.Prelude.{◌≡◌};
+ghost use Rattle.std.specs.List.{list_all};
+ghost use Rattle.std.specs.Option.{option_map};
 
 use crate::Fault;
 use std::alloc::Global;
+use text::number;
 
 fn is_blank(byte: u8) -> bool
     ensures { result ≡ blank byte }
 {
-    byte == b' ' || byte == b'\t' || byte == b'\r'
+    matches!(byte, b' ' | b'\t' | b'\r')
 }
 
 pub(crate) fn all_blank(text: &[u8]) -> bool
-    ensures { result ≡ all_blank text.now }
+    ensures { result ≡ list_all blank text.now }
 {
-    for byte in text {
-        if !is_blank(*byte) {
-            return false;
-        }
-    }
-    true
+    text.iter().all(|b| is_blank(*b))
 }
 
-fn digit(byte: u8) -> Option<u32>
-    ensures { result ≡ digit byte }
+// A piece behind the numbers before it; an empty one adds nothing.
+// One function for this and for the pieces of words is no plainer: blanks, limits, the 0x and the fault's place differ.
+fn add(all: &mut Vec<u32>, piece: &[u8]) -> Result<(), Fault>
+    ensures { Adds (added all.old.items piece.now) all.new.items result }
 {
-    match byte {
-        b'0'..=b'9' => Some(u32::from(byte - b'0')),
-        b'a'..=b'f' => Some(u32::from(byte - b'a') + 10),
-        b'A'..=b'F' => Some(u32::from(byte - b'A') + 10),
-        _ => None,
-    }
-}
-
-// A number with one digit more behind it.
-fn grow(begun: Option<u32>, byte: u8) -> Option<u32>
-    ensures { result ≡ grown begun byte }
-{
-    let Some(number) = begun else {
-        return digit(byte);
-    };
-    if number >= 1 << 28 {
-        return None;
-    }
-    match digit(byte) {
-        Some(low) => Some(number * 16 + low),
-        None => None,
-    }
-}
-
-// Keeps a number that was begun.
-fn keep(all: &mut Vec<u32>, begun: Option<u32>) -> Result<(), Fault>
-    ensures { MatchResult result (λ _. all.new.items ≡ all.old.items ++ option_to_list begun) (λ e. e ≡ NoMemory) }
-{
-    let Some(number) = begun else {
+    if piece.is_empty() {
         return Ok(());
-    };
-    match all.push(number) {
-        Ok(()) => Ok(()),
-        Err(_) => Err(Fault::NoMemory),
     }
+    let number = number(16, piece).ok_or(Fault::Bad)?;
+    all.push(number)?;
+    Ok(())
 }
 
 // The numbers of a text.
 pub(crate) fn read_numbers(heap: Global, text: &[u8]) -> Result<Vec<u32>, Fault>
-    ensures { Numbers (numbers None text.now) result }
+    ensures { Numbers (numbers text.now) result }
 {
     let mut all = Vec::new(heap);
-    let mut begun = None;
-    for byte in text {
-        if is_blank(*byte) {
-            keep(&mut all, begun)?;
-            begun = None;
-        } else {
-            match grow(begun, *byte) {
-                Some(number) => begun = Some(number),
-                None => return Err(Fault::Bad),
-            }
-        }
+    for piece in text.split(|b| is_blank(*b)) {
+        add(&mut all, piece)?;
     }
-    keep(&mut all, begun)?;
     Ok(all)
 }
 
-// Whether the text begins with these four letters and a blank.
-pub(crate) fn begins(text: &[u8], first: u8, second: u8, third: u8, fourth: u8) -> bool
-    ensures { result ≡ begins first second third fourth text.now }
+// What follows a keyword and a blank at the text's start.
+pub(crate) fn behind<'a>(keyword: &[u8], text: &'a [u8]) -> Option<&'a [u8]>
+    ensures { option_map (λ rest. rest.now) result ≡ behind keyword.now text.now }
 {
-    text.len() >= 5
-        && text[0] == first
-        && text[1] == second
-        && text[2] == third
-        && text[3] == fourth
-        && is_blank(text[4])
+    let (blank, rest) = text.strip_prefix(keyword)?.split_first()?;
+    is_blank(*blank).then_some(rest)
 }

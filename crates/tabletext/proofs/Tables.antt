@@ -1,29 +1,24 @@
 -- A table file, line by line.
-use Rattle.std.proofs.Common.{◌≡◌, ℕ, ◌+◌, ◌≤◌, List, ◌∷◌, length, drop, None, Ok, Option, Result, refl, ap, ◌∙◌}
-use Rattle.std.proofs.lemmas.List.{drop_all}
+use Rattle.std.proofs.Common.{◌≡◌, ℕ, ◌+◌, ◌<◌, Bool, false, cond, eqb, List, [], length, get_or, drop, Some, None, Ok, Err, Option, Result, refl, ap}
+use Rattle.std.specs.Io.BufRead.{strip_last}
+use Rattle.std.specs.List.{slice_split}
+use Rattle.std.specs.Option.{ok_or}
 use Rattle.tabletext.specs.Grammar.{line_of}
-use Rattle.tabletext.specs.Texts.{lines_of, bad, lined, and_then, body_of, opened, table_of}
+use Rattle.tabletext.specs.Texts.{lines_of, taken, said, table_of, made, seen}
 use Rattle.tabletext.specs.declared.line.BadLine.{BadLine}
-use Rattle.tabletext.specs.declared.line.Line.{Line}
-use Rattle.tabletext.specs.declared.line.Line.TheVariants.{Blank, States, Row, Bad}
 use Rattle.tape.specs.declared.entry.Entry.{Entry}
+use Rattle.tape.specs.declared.tape.Tape.{Tape}
+use Rattle.text.proofs.Pieces.{turn}
 
--- the first line before the header, and those behind it
-pub table_step : (n : ℕ) (ls rest : List (List ℕ)) (l : List ℕ) (k : Line) → ls ≡ l ∷ rest → line_of l ≡ k → table_of n ls ≡ opened k (n + 1) rest (table_of (n + 1) rest)
-table_step n ls rest l k e f = ap (table_of n) e ∙ ap (λ k. opened k (n + 1) rest (table_of (n + 1) rest)) f
+-- the line at an index, behind what those before it said
+pub next : (before : Option (ℕ × List (Option Entry))) (n : ℕ) (lines : List (List ℕ)) (i : ℕ) (line : List ℕ) → (i < length lines) × (line ≡ get_or lines i line) → (r : Result (Option (ℕ × List (Option Entry))) BadLine) → taken (line_of line) (n + 1) before ≡ r → said (drop i lines) n before ≡ elim r [ Ok after ↦ said (drop (i + 1) lines) (n + 1) after | Err e ↦ Err e ]
+next before n = turn (λ ls. said ls n before) (λ l. taken (line_of l) (n + 1) before) (λ r ls. elim r [ Ok after ↦ said ls (n + 1) after | Err e ↦ Err e ]) (λ l ls. refl)
 
-pub opened_other : (k : Line) (n : ℕ) (ls : List (List ℕ)) (others : Result (ℕ × List (Option Entry)) BadLine) → (k ≡ Blank → ⊥) → ((count : ℕ) → k ≡ States count → ⊥) → opened k n ls others ≡ bad n None
-opened_other Blank n ls others b s = absurd (b refl)
-opened_other (States count) n ls others b s = absurd (s count refl)
-opened_other (Row e) n ls others b s = refl
-opened_other Bad n ls others b s = refl
+-- a text that is not empty has lines
+pub all_lines : (text : List ℕ) → eqb (length text) 0 ≡ false → table_of 0 (lines_of text) ≡ said (slice_split (λ b. eqb b 10) (strip_last 10 text)) 0 None
+all_lines text e = ap (λ (b : Bool). said (cond b [] (slice_split (λ x. eqb x 10) (strip_last 10 text))) 0 None) e
 
-pub table_end : (n at : ℕ) (xs : List ℕ) → length xs ≤ at → table_of n (lines_of (drop at xs)) ≡ bad n None
-table_end n at xs h = ap (λ t. table_of n (lines_of t)) (drop_all at xs h)
-
--- the first line behind the header, and those behind it
-pub body_step : (count n : ℕ) (ls rest : List (List ℕ)) (l : List ℕ) (table : List (Option Entry)) (r : Result (List (Option Entry)) BadLine) → ls ≡ l ∷ rest → lined count (n + 1) (line_of l) table ≡ r → body_of count n ls table ≡ and_then r (body_of count (n + 1) rest)
-body_step count n ls rest l table r e f = ap (λ t. body_of count n t table) e ∙ ap (λ q. and_then q (body_of count (n + 1) rest)) f
-
-pub body_end : (count n at : ℕ) (xs : List ℕ) (table : List (Option Entry)) → length xs ≤ at → body_of count n (lines_of (drop at xs)) table ≡ Ok table
-body_end count n at xs table h = ap (λ t. body_of count n (lines_of t) table) (drop_all at xs h)
+-- the end of the lines
+pub ended : (tape : Option Tape) (n : ℕ) → seen (ok_or tape (record { line = n; refusal = None })) ≡ said [] n (made tape)
+ended None n = refl
+ended (Some t) n = refl

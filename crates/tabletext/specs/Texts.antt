@@ -1,69 +1,74 @@
 -- Table files: their lines, and the table that they say.
-use Rattle.std.specs.Prelude.{ℕ, ◌+◌, cond, List, [], ◌∷◌, Some, None, Ok, Err, Option, Result, ◌==◌}
+use Rattle.std.specs.Prelude.{ℕ, ◌+◌, List, [], ◌∷◌, ◌++◌, codes, decimal, length, Some, None, Ok, Err, Option, Result, MatchResult, IfSome, replicate, ◌≡◌, ◌==◌, if◌then◌else◌}
+use Rattle.std.specs.Io.BufRead.{strip_last}
+use Rattle.std.specs.List.{slice_split}
+use Rattle.std.specs.Option.{option_map}
 use Rattle.tabletext.specs.Grammar.{line_of}
 use Rattle.tabletext.specs.declared.line.BadLine.{BadLine}
 use Rattle.tabletext.specs.declared.line.Line.{Line}
-use Rattle.tabletext.specs.declared.line.Line.TheVariants.{Blank, States, Row, Bad}
+use Rattle.tabletext.specs.declared.line.Line.TheVariants.{Blank, States, Row}
 use Rattle.tape.specs.Tables.{limits, empty, setting, entered}
-use Rattle.tape.specs.Tapes.{states, table}
+use Rattle.tape.specs.Layout.{wide}
+use Rattle.tape.specs.Tapes.{states, table, state}
 use Rattle.tape.specs.declared.entry.Entry.{Entry}
 use Rattle.tape.specs.declared.tape.Tape.{Tape}
+use Rattle.terms.specs.Refusals.{refusal_text}
 use Rattle.terms.specs.declared.Refusal.{Refusal}
 use Rattle.terms.specs.declared.Refusal.TheVariants.{OutOfLimits}
 
--- a byte in front of the first line
-abbrev pub onto : ℕ → List (List ℕ) → List (List ℕ)
-onto b [] = (b ∷ []) ∷ []
-onto b (l ∷ ls) = (b ∷ l) ∷ ls
-
 -- the lines of a text: byte 10 ends a line, and the last may lack it
 abbrev pub lines_of : List ℕ → List (List ℕ)
-lines_of [] = []
-lines_of (b ∷ bs) = cond (b == 10) ([] ∷ lines_of bs) (onto b (lines_of bs))
+lines_of text = if length text == 0 then [] else slice_split (λ b. b == 10) (strip_last 10 text)
 
 -- a line is bad: its number, and the refusal if the tape turned down what it says
 abbrev pub bad : {X : Type 0} → ℕ → Option Refusal → Result X BadLine
 bad line why = Err (record { line = line; refusal = why })
 
 -- an entry is set, or its line is bad with the refusal
-abbrev pub rowed : Result (Unit {0}) Refusal → ℕ → Entry → List (Option Entry) → Result (List (Option Entry)) BadLine
-rowed (Ok done) line e table = Ok (entered e table)
-rowed (Err refusal) line e table = bad line (Some refusal)
+abbrev pub rowed : Result (Unit {0}) Refusal → ℕ → ℕ → Entry → List (Option Entry) → Result (Option (ℕ × List (Option Entry))) BadLine
+rowed (Ok done) line count e table = Ok (Some (count, entered e table))
+rowed (Err refusal) line count e table = bad line (Some refusal)
 
--- a line behind the number of control states: nothing, or an entry
-abbrev pub lined : ℕ → ℕ → Line → List (Option Entry) → Result (List (Option Entry)) BadLine
-lined count line Blank table = Ok table
-lined count line (States other) table = bad line None
-lined count line (Row e) table = rowed (setting count e) line e table
-lined count line Bad table = bad line None
+-- a line behind those that said a number of control states and a table, or nothing: the number comes first, then entries
+abbrev pub taken : Option Line → ℕ → Option (ℕ × List (Option Entry)) → Result (Option (ℕ × List (Option Entry))) BadLine
+taken None line before = bad line None
+taken (Some Blank) line before = Ok before
+taken (Some (States count)) line None = if limits count then Ok (Some (count, empty)) else bad line (Some OutOfLimits)
+taken (Some (States count)) line (Some p) = bad line None
+taken (Some (Row e)) line None = bad line None
+taken (Some (Row e)) line (Some p) = rowed (setting p.0 e) line p.0 e p.1
 
--- what is made of a table, if there is one
-abbrev pub and_then : {X Y : Type 0} → Result X BadLine → (X → Result Y BadLine) → Result Y BadLine
-and_then (Ok x) f = f x
-and_then (Err e) f = Err e
-
--- the table that the lines behind the first n make of the table so far
-abbrev pub body_of : ℕ → ℕ → List (List ℕ) → List (Option Entry) → Result (List (Option Entry)) BadLine
-body_of count n [] table = Ok table
-body_of count n (l ∷ ls) table = and_then (lined count (n + 1) (line_of l) table) (body_of count (n + 1) ls)
-
--- the number of control states, said in line n, and the table that the lines behind it make of an empty one
-abbrev pub headed_by : ℕ → ℕ → List (List ℕ) → Result (ℕ × List (Option Entry)) BadLine
-headed_by count n ls = cond (limits count) (and_then (body_of count n ls empty) (λ table. Ok (count, table))) (bad n (Some OutOfLimits))
-
--- what a line makes of the lines behind it, where none before it said anything
-abbrev pub opened : Line → ℕ → List (List ℕ) → Result (ℕ × List (Option Entry)) BadLine → Result (ℕ × List (Option Entry)) BadLine
-opened Blank line ls others = others
-opened (States count) line ls others = headed_by count line ls
-opened (Row e) line ls others = bad line None
-opened Bad line ls others = bad line None
+-- what lines say behind the first n, and behind what those said
+abbrev pub said : List (List ℕ) → ℕ → Option (ℕ × List (Option Entry)) → Result (ℕ × List (Option Entry)) BadLine
+said [] n None = bad n None
+said [] n (Some p) = Ok p
+said (l ∷ ls) n before = elim (taken (line_of l) (n + 1) before) [ Ok after ↦ said ls (n + 1) after | Err e ↦ Err e ]
 
 -- what the lines behind the first n say: first the number of control states, then the entries
 abbrev pub table_of : ℕ → List (List ℕ) → Result (ℕ × List (Option Entry)) BadLine
-table_of n [] = bad n None
-table_of n (l ∷ ls) = opened (line_of l) (n + 1) ls (table_of (n + 1) ls)
+table_of n ls = said ls n None
+
+-- a tape, if there is one, by its number of control states and its table
+abbrev pub made : Option Tape → Option (ℕ × List (Option Entry))
+made tape = option_map (λ t. (states t, table t)) tape
+
+-- what a line leaves is the outcome, or why it is bad
+abbrev pub Takes : Result (Option (ℕ × List (Option Entry))) BadLine → Option (ℕ × List (Option Entry)) → Result (Unit {0}) BadLine → Type 0
+Takes outcome after result = MatchResult result (λ _. outcome ≡ Ok after) (λ e. outcome ≡ Err e)
+
+-- a tape, if there is one, has all words 0
+abbrev pub Fresh : Option Tape → Type 0
+Fresh tape = IfSome tape (λ t. state t ≡ replicate wide 0)
 
 -- a made tape, by its number of control states and its table
 abbrev pub seen : Result Tape BadLine → Result (ℕ × List (Option Entry)) BadLine
 seen (Ok t) = Ok (states t, table t)
 seen (Err e) = Err e
+
+-- how the first bad line is printed: `line 3 of the table is refused: 34`
+abbrev pub bad_line_text : BadLine → List ℕ
+bad_line_text bad =
+    codes "line " ++ (decimal bad.line ++ (elim bad.refusal [
+      | Some refusal ↦ codes " of the table is refused: " ++ refusal_text refusal
+      | None ↦ codes " of the table says nothing that a table can say"
+    ]))

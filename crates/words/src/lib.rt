@@ -1,73 +1,63 @@
 // Words of 32 bits from hexadecimal text.
 #![tactic(auto)]
 
-ghost use Rattle.std.specs.Prelude.{◌≡◌, ◌+◌, ◌^◌, ◌<◌, ◌≤◌, length, Ok, vec_len, MatchResult};
-ghost use Rattle.words.specs.Hexadecimal.{is_blank, digit, digits, bare, word_of, added, read_all, Tells};
+ghost use Rattle.std.specs.Prelude.{◌≡◌, ◌+◌, ◌^◌, ◌<◌, ◌≤◌, Some, Ok, vec_len, MatchResult};
+ghost use Rattle.words.specs.Hexadecimal.{is_blank, bare, word_of, added, read_all, Tells, Adds, fault_text};
 ghost use Rattle.words.specs.declared.Fault.TheVariants.{NoMemory};
 
 use std::alloc::{AllocFailed, Global};
+use std::error::Error;
+use std::fmt;
 use terms::Place;
+use text::number;
 
-// Why a text gives no words.
-#[derive(Clone, Copy)]
+/// Why a text gives no words.
+#[derive(Clone, Copy, PartialEq, Eq, Debug)]
 pub enum Fault {
-    // a text of 4 GiB or more
+    /// 4 GiB of text or more.
     TooLong,
-    // a piece that is no word of one to eight hexadecimal digits; the place counts the words before it
+    /// A piece that is no word; the place counts the words before it.
     NoWord(Place),
-    // want of memory
     NoMemory,
 }
 
+impl fmt::Display for Fault {
+    ghost output = { λ fault. Some (fault_text fault) };
+
+    fn fmt<W: fmt::Write>(&self, f: &mut fmt::Formatter<W>) -> fmt::Result {
+        match self {
+            Fault::TooLong => write!(f, "the recording has 4 GiB of text or more"),
+            Fault::NoWord(Place(at)) => write!(
+                f,
+                "word {at} of the recording is no hexadecimal number of one to eight digits (the first word is 0)"
+            ),
+            Fault::NoMemory => write!(f, "no memory"),
+        }
+    }
+}
+
+impl Error for Fault {}
+
+// by hand: thiserror's has no contract, and the clauses say when memory fails
 impl<T: Drop> From<AllocFailed<T>> for Fault {
     ghost from_gives = { λ _ r. r ≡ NoMemory };
 
-    fn from(_e: AllocFailed<T>) -> Fault {
-        Fault::NoMemory
+    fn from(_e: AllocFailed<T>) -> Self {
+        Self::NoMemory
     }
 }
 
 fn is_blank(byte: u8) -> bool
     ensures { result ≡ is_blank byte }
 {
-    byte == b' ' || (9 <= byte && byte <= 13)
-}
-
-fn digit_of(byte: u8) -> Option<u32>
-    ensures { result ≡ digit byte }
-{
-    match byte {
-        b'0'..=b'9' => Some(u32::from(byte - b'0')),
-        b'a'..=b'f' => Some(u32::from(byte - b'a') + 10),
-        b'A'..=b'F' => Some(u32::from(byte - b'A') + 10),
-        _ => None,
-    }
-}
-
-// The number that at most eight digits write.
-fn number_of(bytes: &[u8]) -> Option<u32>
-    requires { length bytes.now ≤ 8 }
-    ensures { result ≡ digits 0 bytes.now }
-{
-    let mut number = 0;
-    for byte in bytes {
-        let Some(value) = digit_of(*byte) else {
-            return None;
-        };
-        number = 16 * number + value;
-    }
-    Some(number)
+    matches!(byte, b' ' | b'\t'..=b'\r')
 }
 
 // A piece without the 0x that it may begin with.
 fn without_prefix(piece: &[u8]) -> &[u8]
     ensures { result.now ≡ bare piece.now }
 {
-    if piece.len() >= 2 && piece[0] == b'0' && piece[1] == b'x' {
-        &piece[2..]
-    } else {
-        piece
-    }
+    piece.strip_prefix(b"0x").unwrap_or(piece)
 }
 
 // The word that a piece of text writes.
@@ -75,29 +65,27 @@ fn word_of(piece: &[u8]) -> Option<u32>
     ensures { result ≡ word_of piece.now }
 {
     let digits = without_prefix(piece);
-    if digits.len() < 1 || digits.len() > 8 {
+    if digits.len() > 8 {
         return None;
     }
-    number_of(digits)
+    number(16, digits)
 }
 
 // A piece behind the words before it; an empty one adds nothing.
 fn add(words: &mut Vec<u32>, piece: &[u8]) -> Result<(), Fault>
     requires { vec_len words.old < 2 ^ 32 }
-    ensures value { MatchResult result (λ _. added words.old.items piece.now ≡ Ok words.new.items) (λ e. Tells (added words.old.items piece.now) e) }
-    ensures len { vec_len words.new ≤ vec_len words.old + length piece.now }
+    ensures value { Adds (added words.old.items piece.now) words.new.items result }
+    ensures len { vec_len words.new ≤ vec_len words.old + 1 }
 {
-    if piece.len() == 0 {
+    if piece.is_empty() {
         return Ok(());
     }
-    let Some(word) = word_of(piece) else {
-        return Err(Fault::NoWord(Place(words.len() as u32)));
-    };
+    let word = word_of(piece).ok_or(Fault::NoWord(Place(words.len() as u32)))?;
     words.push(word)?;
     Ok(())
 }
 
-// The words of a text.
+/// The words of a text.
 pub fn read_words(heap: Global, text: &[u8]) -> Result<Vec<u32>, Fault>
     ensures { MatchResult result (λ v. read_all text.now ≡ Ok v.items) (λ e. Tells (read_all text.now) e) }
 {
@@ -105,13 +93,8 @@ pub fn read_words(heap: Global, text: &[u8]) -> Result<Vec<u32>, Fault>
         return Err(Fault::TooLong);
     }
     let mut words = Vec::new(heap);
-    let mut start = 0;
-    for i in 0..text.len() {
-        if is_blank(text[i]) {
-            add(&mut words, &text[start..i])?;
-            start = i + 1;
-        }
+    for piece in text.split(|b| is_blank(*b)) {
+        add(&mut words, piece)?;
     }
-    add(&mut words, &text[start..text.len()])?;
     Ok(words)
 }

@@ -1,72 +1,41 @@
-use Rattle.std.proofs.Common.{◌≡◌, ℕ, ◌+◌, ◌-◌, ◌^◌, ◌<◌, List, [], length, take, drop, vec_items, vec_len, sym, ap, ◌∙◌, arith}
+use Rattle.std.proofs.Common.{rules, tests, Ok, Err, ℕ, length, drop, vec_items, sym, ap, ◌∙◌, arith}
+use Rattle.std.proofs.lemmas.Iterator.Consumers.{YieldsList-at, YieldsList-turn, YieldsList-end}
+use Rattle.std.proofs.lemmas.Iterator.Splits.{YieldsList-from_slice_split}
+use Rattle.std.proofs.lemmas.List.{at_drop_all, length_push}
 use Rattle.std.proofs.lemmas.Result.{err_from_is_err_and}
-use Rattle.words.specs.Hexadecimal.{added, read_from, read_all}
-use Rattle.words.proofs.Pieces.{begins, blank_stops, dark_goes, last, all_is, tells_on, piece_short}
+use Rattle.std.specs.List.{slice_split}
+use Rattle.words.specs.Hexadecimal.{is_blank, added, read_from, read_all}
+use Rattle.words.proofs.Pieces.{next, all_read, tells_on}
 use Rattle.words.proofs.read_words.Goals as goal
-use Rattle.words.proofs.read_words.Goals.{then-is_blank+in_ok-add, else-is_blank}
+
+pub loop-piece-preserved : goal.loop-piece-preserved
+loop-piece-preserved c =
+    let pieces = slice_split is_blank c.args.text.now in
+    let t = YieldsList-turn (YieldsList-at c.into_iter-piece-iterator.ensures.into_iter_gives (YieldsList-from_slice_split _ is_blank c.args.text.now c.split-piece-items.ensures.rest c.split-piece-items.ensures.done c.split-piece-items.ensures.closure (λ x r q k. search (rules, tests)))) c.loop-piece.yielded _ c.loop-piece.yielded_by _ _ c.in-Some.piece c.in-Some.is c.next.ensures.steps in
+    let n = length_push c.loop-piece.yielded c.in-Some.piece in (
+      ap (λ (k : ℕ). read_from (vec_items c.add.new.words) (drop k pieces)) n
+          ∙ sym (next (vec_items c.loop-piece.words) pieces (length c.loop-piece.yielded) c.in-Some.piece.now t (Ok (vec_items c.add.new.words)) c.in_ok-add.ensures.value)
+          ∙ c.loop-piece.invariant.0,
+      omega (arith, n, c.add.ensures.len, c.loop-piece.invariant.1),
+      search rules,
+      tt,
+    )
 
 pub returns-in_err-add : goal.returns-in_err-add
 returns-in_err-add c =
+    let pieces = slice_split is_blank c.args.text.now in
+    let t = YieldsList-turn (YieldsList-at c.into_iter-piece-iterator.ensures.into_iter_gives (YieldsList-from_slice_split _ is_blank c.args.text.now c.split-piece-items.ensures.rest c.split-piece-items.ensures.done c.split-piece-items.ensures.closure (λ x r q k. search (rules, tests)))) c.loop-piece.yielded _ c.loop-piece.yielded_by _ _ c.in-Some.piece c.in-Some.is c.next.ensures.steps in
     let p = err_from_is_err_and c.from_residual.result c.from_residual.ensures.1 in
-    let text : List ℕ = c.args.text.now in
-    let ws : List ℕ = vec_items c.loop-i.words in
-    let piece : List ℕ = take (c.loop-i.i - c.loop-i.start) (drop c.loop-i.start text) in
-    let whole : read_all text ≡ read_from ws piece (drop c.loop-i.i text) = all_is text (omega arith) ∙ sym c.loop-i.invariant.0 in
     rw (p.1, p.2)
-    (tells_on (added ws piece) (read_all text) c.in_err-add.field-0.0
-    (λ f e. whole ∙ blank_stops ws piece text c.loop-i.i c.loop-i-test.true (sym c.is_blank.ensures ∙ c.if-is_blank.true) f e)
+    (tells_on (added (vec_items c.loop-piece.words) c.in-Some.piece.now) (read_all c.args.text.now) c.in_err-add.field-0.0
+    (λ f e.
+    all_read c.args.text.now (omega arith) ∙ sym c.loop-piece.invariant.0
+    ∙ next (vec_items c.loop-piece.words) pieces (length c.loop-piece.yielded) c.in-Some.piece.now t (Err f) e)
     c.in_err-add.ensures.value)
-
-pub loop-i-preserved : goal.loop-i-preserved
-loop-i-preserved c =
-    let text : List ℕ = c.args.text.now in
-    let i : ℕ = c.loop-i.i in
-    let start : ℕ = c.loop-i.start in
-    let ws : List ℕ = vec_items c.loop-i.words in
-    let piece : List ℕ = take (i - start) (drop start text) in
-    let l : i < length text = c.loop-i-test.true in
-    elim c.if-is_blank.branch [
-      | then-is_blank+in_ok-add w ↦
-          let more : List ℕ = vec_items w.add.new.words in
-          let same = ap vec_len w.words-is in
-          let short = piece_short text start i in
-          let len = w.add.ensures.len in (
-            ap (λ (items : List ℕ). read_from items (take (i + 1 - c.if-is_blank.start) (drop c.if-is_blank.start text)) (drop (i + 1) text)) (ap vec_items w.words-is)
-                ∙ begins text ws piece more i c.if-is_blank.start w.start-is l (sym c.is_blank.ensures ∙ w.if-is_blank.true) w.in_ok-add.ensures.value
-                ∙ c.loop-i.invariant.0,
-            omega (arith, w.start-is),
-            omega (arith, w.start-is, same, short, len, c.loop-i.invariant.1, c.loop-i.invariant.2),
-          )
-      | else-is_blank w ↦
-          let same = ap vec_len w.words-is in (
-            ap (λ (items : List ℕ). read_from items (take (i + 1 - c.if-is_blank.start) (drop c.if-is_blank.start text)) (drop (i + 1) text)) (ap vec_items w.words-is)
-                ∙ ap (λ (k : ℕ). read_from ws (take (i + 1 - k) (drop k text)) (drop (i + 1) text)) w.start-is
-                ∙ sym (dark_goes ws text start i c.loop-i.invariant.1 l (sym c.is_blank.ensures ∙ w.if-is_blank.false))
-                ∙ c.loop-i.invariant.0,
-            omega (arith, w.start-is, c.loop-i.invariant.1),
-            omega (arith, w.start-is, same, c.loop-i.invariant.2),
-          )
-    ]
-
--- the outcome, where the last piece is what is left
-whole : (text ws : List ℕ) (i start : ℕ) → length text < 2 ^ 32 → i ≡ length text →
-    read_from ws (take (i - start) (drop start text)) (drop i text) ≡ read_from [] [] text →
-    read_all text ≡ added ws (take (length text - start) (drop start text))
-whole text ws i start h e inv =
-    all_is text h ∙ sym inv ∙ last ws (take (i - start) (drop start text)) text i (omega arith)
-    ∙ ap (λ (k : ℕ). added ws (take (k - start) (drop start text))) e
-
-pub returns-in_err-add-2 : goal.returns-in_err-add-2
-returns-in_err-add-2 c =
-    let p = err_from_is_err_and c.from_residual-in_err-add-2.result c.from_residual-in_err-add-2.ensures.1 in
-    let text : List ℕ = c.args.text.now in
-    let ws : List ℕ = vec_items c.loop-i.words in
-    let all = whole text ws c.loop-i.i c.loop-i.start (omega arith) (omega arith) c.loop-i.invariant.0 in
-    rw (p.1, p.2)
-    (tells_on (added ws (take (length text - c.loop-i.start) (drop c.loop-i.start text))) (read_all text) c.in_err-add-2.field-0.0
-    (λ f e. all ∙ e) c.in_err-add-2.ensures.value)
 
 pub returns : goal.returns
 returns c =
-    whole c.args.text.now (vec_items c.loop-i.words) c.loop-i.i c.loop-i.start (omega arith) (omega arith) c.loop-i.invariant.0
-    ∙ c.in_ok-add-2.ensures.value
+    let pieces = slice_split is_blank c.args.text.now in
+    let t = YieldsList-end (YieldsList-at c.into_iter-piece-iterator.ensures.into_iter_gives (YieldsList-from_slice_split _ is_blank c.args.text.now c.split-piece-items.ensures.rest c.split-piece-items.ensures.done c.split-piece-items.ensures.closure (λ x r q k. search (rules, tests)))) c.loop-piece.yielded _ c.loop-piece.yielded_by _ _ c.in-None.is c.next.ensures.steps in
+    all_read c.args.text.now (omega arith) ∙ sym c.loop-piece.invariant.0
+    ∙ at_drop_all (read_from (vec_items c.loop-piece.words)) pieces (length c.loop-piece.yielded) (omega (arith, t.1))

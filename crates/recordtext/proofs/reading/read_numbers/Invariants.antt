@@ -1,7 +1,10 @@
-use Rattle.std.proofs.Common.{◌≡◌, drop, None, vec_items}
-use Rattle.recordtext.specs.Lines.{numbers}
-use Rattle.recordtext.proofs.Bytes.{left}
+use Rattle.std.proofs.Common.{◌≡◌, [], length, drop, vec_items}
+use Rattle.std.specs.List.{slice_split}
+use Rattle.recordtext.specs.Lines.{blank, numbers_from}
 use Rattle.recordtext.proofs.reading.read_numbers.Given as goal
 
-abbrev pub invariant-loop-byte : goal.invariant-loop-byte
-invariant-loop-byte l = left (vec_items l.all) l.begun (drop l.byte-index l.text) ≡ numbers None l.text
+abbrev pub invariant-loop-piece : goal.invariant-loop-piece
+invariant-loop-piece l =
+    (numbers_from (vec_items l.all) (drop (length l.yielded) (slice_split blank l.text)) ≡ numbers_from [] (slice_split blank l.text))
+    × (goal.iterator-loop-piece).can_next l.piece-iterator
+    × (goal.iterator-loop-piece).is_finite l.piece-iterator
