@@ -1,5 +1,5 @@
 -- Snapshots one after another: how many slots there are, and what they hold.
-use Rattle.std.specs.Prelude.{ℕ, ◌+◌, ◌*◌, ◌/◌, ◌<◌, ◌≤◌, min, Bool, false, cond, List, length, take, drop, Ok, Err, Result, nat_le, slice_index_or}
+use Rattle.std.specs.Prelude.{ℕ, ◌+◌, ◌*◌, ◌/◌, ◌<◌, ◌≤◌, min, Bool, false, cond, if◌then◌else◌, List, length, take, drop, Ok, Err, Result, nat_le, slice_index_or}
 use Rattle.std.proofs.Common.{div-mul-le_self, arith, length-drop, length-take-le}
 use Rattle.std.proofs.lemmas.List.FromFn.{length-map-range_with_len}
 use Rattle.std.proofs.lemmas.Nat.{mul-le}
@@ -13,11 +13,11 @@ use Rattle.terms.specs.declared.Refusal.TheVariants.{WrongWidth, BadPool}
 -- a width outside 1 to 32 is refused, then a room in which no snapshot fits
 abbrev pub checking : (width room : ℕ) → Result (Unit {0}) Refusal
 checking width room =
-    cond (nat_le 1 width) (cond (nat_le width 32) (cond (nat_le width room) (Ok tt) (Err BadPool)) (Err WrongWidth)) (Err WrongWidth)
+    if nat_le 1 width then (if nat_le width 32 then (if nat_le width room then Ok tt else Err BadPool) else Err WrongWidth) else Err WrongWidth
 
 -- the number of slots: the whole snapshots that fit, 64 at most; none for a width that is refused
 abbrev pub count : (width room : ℕ) → ℕ
-count width room = cond (nat_le 1 width) (cond (nat_le width 32) (min 64 (room / width)) 0) 0
+count width room = if nat_le 1 width then (if nat_le width 32 then min 64 (room / width) else 0) else 0
 
 -- the words of slot j
 abbrev pub copy : (words : List ℕ) (width j : ℕ) → List ℕ
@@ -25,7 +25,7 @@ copy words width j = take width (drop (j * width) words)
 
 -- slot j, by the mark that says whether it is in use
 abbrev pub slot_of : (marks : List Bool) (words : List ℕ) (width j : ℕ) → Slot
-slot_of marks words width j = cond (slice_index_or marks j false) (held (copy words width j)) empty
+slot_of marks words width j = if slice_index_or marks j false then held (copy words width j) else empty
 
 -- all slots
 abbrev pub slots_of : (marks : List Bool) (words : List ℕ) (width : ℕ) → List Slot

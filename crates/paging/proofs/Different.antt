@@ -1,109 +1,142 @@
--- Counting different pages, one by one.
-use Rattle.std.proofs.Common.{◌≡◌, ℕ, ◌+◌, ◌*◌, ◌<◌, ◌≤◌, Bool, true, false, cond, ◌||◌, eqb, List, [], ◌∷◌, ◌++◌, length, get_or, drop, sym, refl, ap, ◌∙◌, subst, ⊎_elim, arith}
+-- There are as many different pages as pages in use.
+use Rattle.std.proofs.Common.{◌≡◌, ℕ, zero, suc, ◌+◌, ◌*◌, ◌/◌, ◌%◌, ◌<◌, ◌≤◌, Bool, true, false, cond, ◌||◌, ◌==◌, Option, None, Some, List, [], ◌∷◌, ◌++◌, map, length, get_or, take, sym, refl, ap, ◌∙◌, subst, ⊎_elim, arith}
+use Rattle.std.specs.List.{range_with_len, count_by}
 use Rattle.std.proofs.lemmas.List.FromFn.{length-map-range_with_len, get_or-map-range_with_len}
-use Rattle.std.proofs.lemmas.List.{at_drop_more, append-nil, drop_all}
-use Rattle.std.proofs.lemmas.Bool.{cond-true, cond-false, ne_eqb, eq-eqb, eqb-true, cases_Bool, cases_eq, and_parts, and_from}
-use Rattle.store.specs.Counting.{numbered}
-use Rattle.store.specs.Slots.{Slot, empty, held}
-use Rattle.paging.specs.Layout.{pages_in}
-use Rattle.paging.specs.Pages.{noted, row, shot, slot_of, page, cut, pages_of, same, among, different}
+use Rattle.std.proofs.lemmas.List.Sums.{sum_by-cons}
+use Rattle.std.proofs.lemmas.List.{append-nil, get_or_past, map-append}
+use Rattle.std.proofs.lemmas.Bool.{ne_eqb, eq-eqb, eqb-true, cases_eq, cases_lt}
+use Rattle.paging.specs.Layout.{pages_in, count, whole}
+use Rattle.paging.specs.Pages.{at, page, numbers, shot, slot_of, named, has, TidyAll, cut, pages_of, same, among, different, used}
+use Rattle.paging.proofs.Numbers.{has_right, counted_same, same_self, same_equal}
 
-or_assoc : (a b c : Bool) → (a || (b || c)) ≡ ((a || b) || c)
-or_assoc a b c = elim a as (λ v. (v || (b || c)) ≡ ((v || b) || c)) [ true ↦ refl | false ↦ refl ]
+-- how many different numbers there are
+abbrev distinct : List ℕ → ℕ
+distinct [] = 0
+distinct (k ∷ ks) = cond (has ks k) 0 1 + distinct ks
 
-pub among_append : (x : List ℕ) (ys zs : List (List ℕ)) → among x (ys ++ zs) ≡ (among x ys || among x zs)
-among_append x [] zs = refl
-among_append x (y ∷ ys) zs = ap (λ b. same x y || b) (among_append x ys zs) ∙ or_assoc (same x y) (among x ys) (among x zs)
+bool_equal : (a b : Bool) → (a ≡ true → b ≡ true) → (b ≡ true → a ≡ true) → a ≡ b
+bool_equal true b f g = sym (f refl)
+bool_equal false true f g = g refl
+bool_equal false false f g = refl
 
--- two pages are the same where their four words are
-pub same_true : (x y : List ℕ) (i k : ℕ) → ((t : ℕ) → t < 4 → get_or x (4 * i + t) 0 ≡ get_or y (4 * k + t) 0) → same (page x i) (page y k) ≡ true
-same_true x y i k h =
-    let z : get_or x (4 * i) 0 ≡ get_or y (4 * k) 0 = ap (λ n. get_or x n 0) (plain i) ∙ h 0 (omega arith) ∙ ap (λ n. get_or y n 0) (sym (plain k)) in
-    and_from _ _ (eq-eqb _ _ z) (and_from _ _ (eq-eqb _ _ (h 1 (omega arith))) (and_from _ _ (eq-eqb _ _ (h 2 (omega arith))) (and_from _ _ (eq-eqb _ _ (h 3 (omega arith))) refl)))
+has_more : (k : ℕ) (ks : List ℕ) (m : ℕ) → has ks m ≡ true → has (k ∷ ks) m ≡ true
+has_more k ks m h = has_right (k ∷ []) ks m h
+
+has_head : (k : ℕ) (ks : List ℕ) → has (k ∷ ks) k ≡ true
+has_head k ks = ap (λ b. b || has ks k) (eq-eqb k k refl)
+
+among_has : (pool : List ℕ) (k : ℕ) (ks : List ℕ) → ((l : ℕ) → has ks l ≡ true → page pool k ≡ page pool l → k ≡ l) → among (page pool k) (map (page pool) ks) ≡ has ks k
+among_has pool k [] h = refl
+among_has pool k (l ∷ ks) h =
+    ap (λ b. b || among (page pool k) (map (page pool) ks))
+    (bool_equal (same (page pool k) (page pool l)) (l == k)
+    (λ e. eq-eqb l k (sym (h l (has_head l ks) (same_equal (page pool k) (page pool l) e))))
+    (λ e. subst (λ m. same (page pool k) (page pool m) ≡ true) (sym (eqb-true l k e)) (same_self (page pool k)))) ∙
+    ap (λ b. (l == k) || b) (among_has pool k ks (λ m i e. h m (has_more l ks m i) e))
+
+different_distinct : (pool ks : List ℕ) → ((k l : ℕ) → has ks k ≡ true → has ks l ≡ true → page pool k ≡ page pool l → k ≡ l) → different (map (page pool) ks) ≡ distinct ks
+different_distinct pool [] h = refl
+different_distinct pool (k ∷ ks) h =
+    ap (λ b. cond b 0 1 + different (map (page pool) ks)) (among_has pool k ks (λ l i e. h k l (has_head k ks) (has_more k ks l i) e)) ∙
+    ap (λ n. cond (has ks k) 0 1 + n) (different_distinct pool ks (λ l m i j e. h l m (has_more k ks l i) (has_more k ks m j) e))
+
+-- a number counted below q beside others
+one_past : (p : ℕ → Bool) (k a n : ℕ) → k < a → count_by (λ m. (k == m) || p m) (range_with_len a n) ≡ count_by p (range_with_len a n)
+one_past p k a zero h = refl
+one_past p k a (suc n) h =
+    sum_by-cons (λ m. cond ((k == m) || p m) 1 0) a (range_with_len (a + 1) n) ∙
+    ap (λ b. cond (b || p a) 1 0 + count_by (λ m. (k == m) || p m) (range_with_len (a + 1) n)) (ne_eqb k a (λ e. omega arith)) ∙
+    ap (λ c. cond (p a) 1 0 + c) (one_past p k (a + 1) n (omega arith)) ∙
+    sym (sum_by-cons (λ m. cond (p m) 1 0) a (range_with_len (a + 1) n))
+
+new_one : (b : Bool) (c : ℕ) → 1 + c ≡ cond b 0 1 + (cond b 1 0 + c)
+new_one true c = omega arith
+new_one false c = omega arith
+
+one_within : (p : ℕ → Bool) (k a n : ℕ) → a ≤ k → k < a + n → count_by (λ m. (k == m) || p m) (range_with_len a n) ≡ cond (p k) 0 1 + count_by p (range_with_len a n)
+one_within p k a zero h l = absurd (omega arith)
+one_within p k a (suc n) h l =
+    sum_by-cons (λ m. cond ((k == m) || p m) 1 0) a (range_with_len (a + 1) n) ∙
+    ⊎_elim
+    (λ e.
+    ap (λ b. cond (b || p a) 1 0 + count_by (λ m. (k == m) || p m) (range_with_len (a + 1) n)) (eq-eqb k a e) ∙
+    ap (λ c. 1 + c) (one_past p k (a + 1) n (omega (arith, e))) ∙
+    new_one (p a) (count_by p (range_with_len (a + 1) n)) ∙
+    ap (λ m. cond (p m) 0 1 + (cond (p a) 1 0 + count_by p (range_with_len (a + 1) n))) (sym e))
+    (λ ne.
+    let i = one_within p k (a + 1) n (omega (arith, ne)) (omega arith) in
+    ap (λ b. cond (b || p a) 1 0 + count_by (λ m. (k == m) || p m) (range_with_len (a + 1) n)) (ne_eqb k a ne) ∙
+    omega (arith, i))
+    (cases_eq k a) ∙
+    ap (λ c. cond (p k) 0 1 + c) (sym (sum_by-cons (λ m. cond (p m) 1 0) a (range_with_len (a + 1) n)))
+
+none_counted : (a n : ℕ) → count_by (λ m. false) (range_with_len a n) ≡ 0
+none_counted a zero = refl
+none_counted a (suc n) = let i = none_counted (a + 1) n in sum_by-cons (λ m. cond false 1 0) a (range_with_len (a + 1) n) ∙ omega (arith, i)
+
+distinct_counted : (ks : List ℕ) (q : ℕ) → ((k : ℕ) → has ks k ≡ true → k < q) → distinct ks ≡ count_by (has ks) (range_with_len 0 q)
+distinct_counted [] q h = sym (none_counted 0 q)
+distinct_counted (k ∷ ks) q h =
+    ap (λ n. cond (has ks k) 0 1 + n) (distinct_counted ks q (λ l i. h l (has_more k ks l i))) ∙
+    sym (one_within (has ks) k 0 q (omega arith) (omega (arith, h k (has_head k ks))))
+
+-- a page of a held snapshot is that of its number
+page_same : (xs ys : List ℕ) (i k : ℕ) → ((t : ℕ) → t < 4 → get_or xs (4 * i + t) 0 ≡ get_or ys (4 * k + t) 0) → page xs i ≡ page ys k
+page_same xs ys i k h =
+    let z : get_or xs (4 * i) 0 ≡ get_or ys (4 * k) 0 = ap (λ n. get_or xs n 0) (plain i) ∙ h 0 (omega arith) ∙ ap (λ n. get_or ys n 0) (sym (plain k)) in
+    ap (λ w. w ∷ get_or xs (4 * i + 1) 0 ∷ get_or xs (4 * i + 2) 0 ∷ get_or xs (4 * i + 3) 0 ∷ []) z ∙
+    ap (λ w. get_or ys (4 * k) 0 ∷ w ∷ get_or xs (4 * i + 2) 0 ∷ get_or xs (4 * i + 3) 0 ∷ []) (h 1 (omega arith)) ∙
+    ap (λ w. get_or ys (4 * k) 0 ∷ get_or ys (4 * k + 1) 0 ∷ w ∷ get_or xs (4 * i + 3) 0 ∷ []) (h 2 (omega arith)) ∙
+    ap (λ w. get_or ys (4 * k) 0 ∷ get_or ys (4 * k + 1) 0 ∷ get_or ys (4 * k + 2) 0 ∷ w ∷ []) (h 3 (omega arith))
   where
     plain : (n : ℕ) → 4 * n ≡ 4 * n + 0
     plain n = omega arith
 
-pub true_same : (x y : List ℕ) (i k : ℕ) → same (page x i) (page y k) ≡ true → (t : ℕ) → t < 4 → get_or x (4 * i + t) 0 ≡ get_or y (4 * k + t) 0
-true_same x y i k e t h =
-    let a = and_parts (eqb (get_or x (4 * i) 0) (get_or y (4 * k) 0)) _ e in
-    let b = and_parts (eqb (get_or x (4 * i + 1) 0) (get_or y (4 * k + 1) 0)) _ a.1 in
-    let c = and_parts (eqb (get_or x (4 * i + 2) 0) (get_or y (4 * k + 2) 0)) _ b.1 in
-    let d = and_parts (eqb (get_or x (4 * i + 3) 0) (get_or y (4 * k + 3) 0)) _ c.1 in
-    four (λ n. get_or x (4 * i + n) 0 ≡ get_or y (4 * k + n) 0)
-    (ap (λ n. get_or x n 0) (sym (plain i)) ∙ eqb-true _ _ a.0 ∙ ap (λ n. get_or y n 0) (plain k)) (eqb-true _ _ b.0) (eqb-true _ _ c.0) (eqb-true _ _ d.0) t h
+page_shot : (pool : List ℕ) (width : ℕ) (row : List ℕ) (i : ℕ) → ((t : ℕ) → t < 4 → width ≤ 4 * i + t → at pool (get_or row i 0) t ≡ 0) → page (shot pool width row) i ≡ page pool (get_or row i 0)
+page_shot pool width row i padded =
+    page_same (shot pool width row) pool i (get_or row i 0)
+    (λ t h.
+    ⊎_elim
+    (λ l.
+    let a : (4 * i + t) / 4 ≡ i = omega arith in
+    let b : (4 * i + t) % 4 ≡ t = omega arith in
+    get_or-map-range_with_len (λ i. at pool (get_or row (i / 4) 0) (i % 4)) 0 width (4 * i + t) (4 * i + t) 0 l (omega arith) ∙
+    ap (λ x. at pool (get_or row x 0) ((4 * i + t) % 4)) a ∙ ap (λ x. at pool (get_or row i 0) x) b)
+    (λ l.
+    get_or_past (shot pool width row) (4 * i + t) 0 (omega (arith, length-map-range_with_len (λ i. at pool (get_or row (i / 4) 0) (i % 4)) 0 width)) ∙
+    sym (padded t h l))
+    (cases_lt (4 * i + t) width))
+
+cut_shot : (pool : List ℕ) (width p : ℕ) (row : List ℕ) → ((i t : ℕ) → i < p → t < 4 → width ≤ 4 * i + t → at pool (get_or row i 0) t ≡ 0) → cut p (shot pool width row) ≡ map (page pool) (numbers p row)
+cut_shot pool width p row padded =
+    counted_same [] (page (shot pool width row)) (λ i. page pool (get_or row i 0)) p (λ i h. page_shot pool width row i (λ t l w. padded i t h l w)) ∙
+    sym (mapped (range_with_len 0 p))
   where
-    plain : (n : ℕ) → 4 * n ≡ 4 * n + 0
-    plain n = omega arith
+    mapped : (is : List ℕ) → map (page pool) (map (λ i. get_or row i 0) is) ≡ map (λ i. page pool (get_or row i 0)) is
+    mapped [] = refl
+    mapped (i ∷ is) = ap (λ l. page pool (get_or row i 0) ∷ l) (mapped is)
 
-    four : (Q : ℕ → Type 0) → Q 0 → Q 1 → Q 2 → Q 3 → (n : ℕ) → n < 4 → Q n
-    four Q a b c d n h =
-        ⊎_elim (λ e. subst Q (sym e) a)
-        (λ n0. ⊎_elim (λ e. subst Q (sym e) b)
-        (λ n1. ⊎_elim (λ e. subst Q (sym e) c) (λ n2. let e : n ≡ 3 = omega (arith, n0, n1, n2) in subst Q (sym e) d) (cases_eq n 2))
-        (cases_eq n 1))
-        (cases_eq n 0)
+held_pages : (pool : List ℕ) (width p : ℕ) (rows : List (Option (List ℕ)))
+    → ((j : ℕ) (row : List ℕ) (i t : ℕ) → get_or rows j None ≡ Some row → i < p → t < 4 → width ≤ 4 * i + t → at pool (get_or row i 0) t ≡ 0)
+    → pages_of p (map (slot_of pool width) rows) ≡ map (page pool) (named p rows)
+held_pages pool width p [] h = refl
+held_pages pool width p (None ∷ rows) h = held_pages pool width p rows (λ j row i t e. h (suc j) row i t e)
+held_pages pool width p (Some row ∷ rows) h =
+    ap (λ l. l ++ pages_of p (map (slot_of pool width) rows)) (cut_shot pool width p row (λ i t. h 0 row i t refl)) ∙
+    ap (λ l. map (page pool) (numbers p row) ++ l) (held_pages pool width p rows (λ j row i t e. h (suc j) row i t e)) ∙
+    sym (map-append (page pool) (numbers p row) (named p rows))
 
--- a test that agrees and differs as the pages do
-pub same_is : (r : Bool) (x y : List ℕ) (i k : ℕ) → (r ≡ true → (t : ℕ) → t < 4 → get_or x (4 * i + t) 0 ≡ get_or y (4 * k + t) 0) → (r ≡ false → ((t : ℕ) → t < 4 → get_or x (4 * i + t) 0 ≡ get_or y (4 * k + t) 0) → ⊥)
-    → r ≡ same (page x i) (page y k)
-same_is r x y i k yes' no' =
-    ⊎_elim (λ e. e ∙ sym (same_true x y i k (yes' e)))
-    (λ e. ⊎_elim (λ f. absurd (no' e (true_same x y i k f))) (λ f. e ∙ sym f) (cases_Bool (same (page x i) (page y k))))
-    (cases_Bool r)
+-- the different pages of tidy rows are the pages that they name
+pub used_counted : (rows : List (Option (List ℕ))) (pool : List ℕ) (width : ℕ) → TidyAll rows pool width
+    → used rows pool width ≡ count_by (has (named (pages_in width) (take (count width (length pool)) rows))) (range_with_len 0 (whole (length pool)))
+used_counted rows pool width tidy =
+    let rs = take (count width (length pool)) rows in
+    ap different (held_pages pool width (pages_in width) rs tidy.padded) ∙
+    different_distinct pool (named (pages_in width) rs) tidy.kept.shared ∙
+    distinct_counted (named (pages_in width) rs) (whole (length pool)) tidy.kept.inside
 
--- a page among those of a snapshot, one by one
-pub row_step : (x words : List ℕ) (p k : ℕ) → k < p → among x (drop k (cut p words)) ≡ (same x (page words k) || among x (drop (k + 1) (cut p words)))
-row_step x words p k h =
-    at_drop_more (among x) (cut p words) k [] (omega (arith, length-map-range_with_len (page words) 0 p)) ∙
-    ap (λ y. same x y || among x (drop (k + 1) (cut p words))) (get_or-map-range_with_len (page words) 0 p k k [] h (omega arith))
-
--- a page among those of slots, one by one
-pub slot_step : (x : List ℕ) (p : ℕ) (f : ℕ → Slot) (n j : ℕ) → j < n → among x (pages_of p (drop j (numbered f n))) ≡ (among x (pages_of p (f j ∷ [])) || among x (pages_of p (drop (j + 1) (numbered f n))))
-slot_step x p f n j h =
-    at_drop_more (λ s. among x (pages_of p s)) (numbered f n) j empty (omega (arith, length-map-range_with_len f 0 n)) ∙
-    ap (λ s. among x (pages_of p (s ∷ drop (j + 1) (numbered f n)))) (get_or-map-range_with_len f 0 n j j empty h (omega arith)) ∙
-    one (f j) (drop (j + 1) (numbered f n))
-  where
-    one : (s : Slot) (rest : List Slot) → among x (pages_of p (s ∷ rest)) ≡ (among x (pages_of p (s ∷ [])) || among x (pages_of p rest))
-    one empty rest = refl
-    one (held words) rest = among_append x (cut p words) (pages_of p rest) ∙ ap (λ l. among x l || among x (pages_of p rest)) (sym (append-nil (cut p words)))
-
--- the different pages of a snapshot and what comes after it, one by one
-pub page_step : (words : List ℕ) (p i : ℕ) (rest : List (List ℕ)) → i < p
-    → different (drop i (cut p words) ++ rest) ≡ cond (among (page words i) (drop (i + 1) (cut p words) ++ rest)) 0 1 + different (drop (i + 1) (cut p words) ++ rest)
-page_step words p i rest h =
-    at_drop_more (λ l. different (l ++ rest)) (cut p words) i [] (omega (arith, length-map-range_with_len (page words) 0 p)) ∙
-    ap (λ y. cond (among y (drop (i + 1) (cut p words) ++ rest)) 0 1 + different (drop (i + 1) (cut p words) ++ rest)) (get_or-map-range_with_len (page words) 0 p i i [] h (omega arith))
-
--- the different pages of slots, one by one
-pub slots_step : (p : ℕ) (f : ℕ → Slot) (n j : ℕ) → j < n → different (pages_of p (drop j (numbered f n))) ≡ different (pages_of p (f j ∷ drop (j + 1) (numbered f n)))
-slots_step p f n j h =
-    at_drop_more (λ s. different (pages_of p s)) (numbered f n) j empty (omega (arith, length-map-range_with_len f 0 n)) ∙
-    ap (λ s. different (pages_of p (s ∷ drop (j + 1) (numbered f n)))) (get_or-map-range_with_len f 0 n j j empty h (omega arith))
-
--- the pages of a slot that is empty, and of one that is held
-pub slot_none : (table pool : List ℕ) (width j : ℕ) (rest : List Slot) → noted table width j 0 ≡ 0 → pages_of (pages_in width) (slot_of table pool width j ∷ rest) ≡ pages_of (pages_in width) rest
-slot_none table pool width j rest z =
-    ap (λ s. pages_of (pages_in width) (s ∷ rest)) (cond-true (eqb (noted table width j 0) 0) empty (held (shot table pool width j)) (eq-eqb (noted table width j 0) 0 z))
-
-pub slot_some : (table pool : List ℕ) (width j : ℕ) (rest : List Slot) → (noted table width j 0 ≡ 0 → ⊥)
-    → pages_of (pages_in width) (slot_of table pool width j ∷ rest) ≡ cut (pages_in width) (row table pool width (j * pages_in width)) ++ pages_of (pages_in width) rest
-slot_some table pool width j rest ne =
-    ap (λ s. pages_of (pages_in width) (s ∷ rest)) (cond-false (eqb (noted table width j 0) 0) empty (held (shot table pool width j)) (ne_eqb (noted table width j 0) 0 ne))
-
--- nothing is left behind the last page, or the last slot
-pub row_end : (words : List ℕ) (p k : ℕ) → p ≤ k → drop k (cut p words) ≡ []
-row_end words p k h = drop_all k (cut p words) (omega (arith, length-map-range_with_len (page words) 0 p))
-
-pub slots_end : (f : ℕ → Slot) (n j : ℕ) → n ≤ j → drop j (numbered f n) ≡ []
-slots_end f n j h = drop_all j (numbered f n) (omega (arith, length-map-range_with_len f 0 n))
-
--- there are no more different pages than pages
-pub different_few : (xs : List (List ℕ)) → different xs ≤ length xs
-different_few [] = omega arith
-different_few (x ∷ xs) = let d = different_few xs in let b = cond_few (among x xs) in omega arith
-  where
-    cond_few : (b : Bool) → cond b 0 1 ≤ 1
-    cond_few true = omega arith
-    cond_few false = omega arith
+pub count_used : (rows : List (Option (List ℕ))) (pool : List ℕ) (width n p : ℕ) → n ≡ count width (length pool) → p ≡ pages_in width → TidyAll rows pool width
+    → count_by (has (named p (take n rows) ++ [])) (range_with_len 0 (whole (length pool))) ≡ used rows pool width
+count_used rows pool width n p e f tidy =
+    ap (λ l. count_by (has l) (range_with_len 0 (whole (length pool)))) (append-nil (named p (take n rows)) ∙ ap (λ m. named p (take m rows)) e ∙ ap (λ q. named q (take (count width (length pool)) rows)) f) ∙
+    sym (used_counted rows pool width tidy)

@@ -1,6 +1,5 @@
-pub mod Pigeons
-pub mod Words
-pub mod Placing
-pub mod Laying
-pub mod Rows
 pub mod Different
+pub mod Numbers
+pub mod Pigeons
+pub mod Placing
+pub mod Rows

@@ -1,97 +1,92 @@
--- One number noted in a table.
-use Rattle.std.proofs.Common.{◌≡◌, ℕ, ◌+◌, ◌-◌, ◌*◌, ◌<◌, ◌≤◌, ◌⊎◌, List, length, get_or, set, sym, refl, ap, ◌∙◌, inr, ⊎_elim, arith}
-use Rattle.std.proofs.lemmas.List.{get_or-set_same, get_or-set_other}
-use Rattle.std.proofs.lemmas.Bool.{cases_eq, cases_lt}
-use Rattle.paging.proofs.Words.{at_none, at_some}
+-- The pages of a snapshot laid one after another.
+use Rattle.std.proofs.Common.{◌≡◌, ℕ, ◌+◌, ◌<◌, Bool, true, false, ◌&&◌, None, Some, List, [], ◌∷◌, ◌++◌, length, get_or, set, take, sym, refl, ap, ◌∙◌, subst, ⊎_elim, append_assoc, arith}
+use Rattle.std.proofs.lemmas.List.{get_or-set_same, get_or-set_other, take_more_set}
+use Rattle.std.specs.List.{find, range_with_len}
+use Rattle.std.proofs.lemmas.Bool.{cases_lt, and_parts, and_from}
 use Rattle.paging.specs.Layout.{whole}
-use Rattle.paging.specs.Pages.{at, Kept}
-use Rattle.paging.specs.Steps.{Holds, Wrote, Placed}
+use Rattle.paging.specs.Pages.{page, has, Kept, same}
+use Rattle.paging.specs.Steps.{StaysBehind, Placed, Laid}
+use Rattle.paging.proofs.Numbers.{has_left, has_right, has_push, has_at, found, not_found, same_self, same_equal}
 
--- a table each of whose numbers is 0 or stood in a table that is kept
-pub kept_from : (limit : ℕ) (table table' pool : List ℕ) → ((x : ℕ) → x < limit → (get_or table' x 0 ≡ 0) ⊎ ((y : ℕ) × (y < limit) × (get_or table' x 0 ≡ get_or table y 0)))
-    → Kept limit table pool → Kept limit table' pool
-kept_from limit table table' pool from k =
-    record {
-      named = λ x h. ⊎_elim (λ z. omega (arith, z)) (λ v. let b = k.named v.0 v.1 in omega (arith, b, v.2)) (from x h);
-      shared = λ x y h i some some' eq.
-          ⊎_elim (λ z. absurd (omega (arith, z)))
-          (λ v.
-          ⊎_elim (λ z. absurd (omega (arith, z)))
-          (λ w.
-          v.2 ∙ k.shared v.0 w.0 v.1 w.1 (omega (arith, v.2)) (omega (arith, w.2))
-          (λ t l. ap (λ n. at pool n t) (sym v.2) ∙ eq t l ∙ ap (λ n. at pool n t) w.2) ∙ sym w.2)
-          (from y i))
-          (from x h);
-    }
+-- fewer numbers are kept too
+pub kept_fewer : (ks ks' pool : List ℕ) → ((k : ℕ) → has ks' k ≡ true → has ks k ≡ true) → Kept ks pool → Kept ks' pool
+kept_fewer ks ks' pool f k = record { inside = λ m h. k.inside m (f m h); shared = λ m l h i e. k.shared m l (f m h) (f l i) e }
+
+not_both : (b : Bool) → b ≡ true → b ≡ false → ⊥
+not_both b t f = absurd (cc)
 
 -- a page that is there already
-pub placed_known : (limit index number : ℕ) (content table pool : List ℕ) → index < length table → 1 ≤ number → ((x : ℕ) × (x < limit) × (get_or table x 0 ≡ number)) → Holds pool number content
-    → Placed limit index content table pool (set table index number) pool
-placed_known limit index number content table pool fits some known holds =
-    let here = get_or-set_same table index number 0 fits in
+pub placed_known : (ks content pool : List ℕ) (k : ℕ) → has ks k ≡ true → page pool k ≡ content → Kept ks pool → Placed ks content pool k pool
+placed_known ks content pool k h e kept =
     record {
-      others = λ y ne. get_or-set_other table index y number 0 ne;
-      some = omega (arith, here);
-      holds = λ t l. ap (λ n. at pool n t) here ∙ holds t l;
-      stays = λ _ _ _ _. refl;
-      behind = λ _ _. refl;
-      kept = kept_from limit table (set table index number) pool
-          (λ x h. inr (⊎_elim (λ e. (known.0, known.1, ap (λ i. get_or (set table index number) i 0) e ∙ here ∙ sym known.2)) (λ ne. (x, h, get_or-set_other table index x number 0 ne)) (cases_eq x index)));
+      holds = e;
+      stays = record { pages = λ _ _. refl; behind = λ _ _. refl; size = refl };
+      kept = kept_fewer ks (ks ++ k ∷ []) pool (λ m i. ⊎_elim (λ a. a) (λ q. subst (λ n. has ks n ≡ true) q h) (has_push ks k m i)) kept;
     }
 
--- a number other than the page's that was written reads as before
-pub unwritten : (number other t : ℕ) (content pool pool' : List ℕ) → 1 ≤ number → (other ≡ number → ⊥) → t < 4 → Wrote number content pool pool' → at pool' other t ≡ at pool other t
-unwritten number other t content pool pool' some ne l w =
-    ⊎_elim
-    (λ z. at_none pool' other t z ∙ sym (at_none pool other t z))
-    (λ z.
-    let s : 1 ≤ other = omega (arith, z) in
-    at_some pool' other t s ∙
-    ⊎_elim (λ b. w.before (4 * (other - 1) + t) b)
-    (λ b. w.behind (4 * (other - 1) + t) (omega (arith, ne)))
-    (cases_lt (4 * (other - 1) + t) (4 * (number - 1))) ∙
-    sym (at_some pool other t s))
-    (cases_eq other 0)
-
--- a page that nothing names, written
-pub placed_fresh : (limit index number : ℕ) (content table pool pool' : List ℕ) → index < length table → 1 ≤ number → number ≤ whole (length pool) → length pool' ≡ length pool
-    → ((x : ℕ) → x < limit → get_or table x 0 ≡ number → ⊥) → ((x : ℕ) → x < limit → 1 ≤ get_or table x 0 → Holds pool (get_or table x 0) content → ⊥)
-    → Wrote number content pool pool' → Placed limit index content table pool (set table index number) pool'
-placed_fresh limit index number content table pool pool' fits some low size free none w =
-    let here = get_or-set_same table index number 0 fits in
-    let stays : (y t : ℕ) → y < limit → t < 4 → at pool' (get_or table y 0) t ≡ at pool (get_or table y 0) t = λ y t h l. unwritten number (get_or table y 0) t content pool pool' some (free y h) l w in
-    let holds : (t : ℕ) → t < 4 → at pool' number t ≡ get_or content t 0 = λ t l. at_some pool' number t some ∙ w.inside t l in
+-- a page that is not in use, written
+pub placed_fresh : (ks content pool : List ℕ) (k : ℕ) (pool' : List ℕ) → k < whole (length pool) → has ks k ≡ false
+    → ((l : ℕ) → l < whole (length pool) → has ks l ≡ true → page pool l ≡ content → ⊥)
+    → page pool' k ≡ content → ((l : ℕ) → (l ≡ k → ⊥) → page pool' l ≡ page pool l)
+    → StaysBehind pool pool' → length pool' ≡ length pool
+    → Kept ks pool → Placed ks content pool k pool'
+placed_fresh ks content pool k pool' low unused none holds others behind size kept =
+    let stays : (l : ℕ) → has ks l ≡ true → page pool' l ≡ page pool l = λ l h. others l (λ e. not_both (has ks l) h (ap (has ks) e ∙ unused)) in
+    let lone : (l : ℕ) → has ks l ≡ true → page pool' l ≡ page pool' k → ⊥ = λ l h e. none l (kept.inside l h) h (sym (stays l h) ∙ e ∙ holds) in
     record {
-      others = λ y ne. get_or-set_other table index y number 0 ne;
-      some = omega (arith, here);
-      holds = λ t l. ap (λ n. at pool' n t) here ∙ holds t l;
-      stays = stays;
-      behind = λ z h. w.behind z (omega arith);
-      kept = λ k.
-          record {
-            named = λ x h.
-                ⊎_elim (λ e. omega (arith, ap (λ i. get_or (set table index number) i 0) e, here, size))
-                (λ ne. let b = k.named x h in omega (arith, b, get_or-set_other table index x number 0 ne, size))
-                (cases_eq x index);
-            shared = λ x y h i p q eq.
-                ⊎_elim
-                (λ e. ⊎_elim
-                (λ f. ap (λ a. get_or (set table index number) a 0) (e ∙ sym f))
-                (λ ne.
-                let o = get_or-set_other table index y number 0 ne in
-                absurd (none y i (omega (arith, o))
-                (λ t l. sym (stays y t i l) ∙ ap (λ n. at pool' n t) (sym o) ∙ sym (eq t l) ∙ ap (λ a. at pool' (get_or (set table index number) a 0) t) e ∙ ap (λ n. at pool' n t) here ∙ holds t l)))
-                (cases_eq y index))
-                (λ ne. let o = get_or-set_other table index x number 0 ne in
-                ⊎_elim
-                (λ f.
-                absurd (none x h (omega (arith, o))
-                (λ t l. sym (stays x t h l) ∙ ap (λ n. at pool' n t) (sym o) ∙ eq t l ∙ ap (λ a. at pool' (get_or (set table index number) a 0) t) f ∙ ap (λ n. at pool' n t) here ∙ holds t l)))
-                (λ nf.
-                let o' = get_or-set_other table index y number 0 nf in
-                o ∙ k.shared x y h i (omega (arith, o)) (omega (arith, o'))
-                (λ t l. sym (stays x t h l) ∙ ap (λ n. at pool' n t) (sym o) ∙ eq t l ∙ ap (λ n. at pool' n t) o' ∙ stays y t i l) ∙ sym o')
-                (cases_eq y index))
-                (cases_eq x index);
-          };
+      holds = holds;
+      stays = record { pages = stays; behind = behind; size = size };
+      kept = record {
+        inside = λ m h. ⊎_elim (λ a. omega (arith, kept.inside m a, size)) (λ e. omega (arith, e, size)) (has_push ks k m h);
+        shared = λ m l h i e.
+            ⊎_elim
+            (λ a. ⊎_elim
+            (λ b. kept.shared m l a b (sym (stays m a) ∙ e ∙ stays l b))
+            (λ q. absurd (lone m a (e ∙ ap (page pool') (sym q))))
+            (has_push ks k l i))
+            (λ p. ⊎_elim
+            (λ b. absurd (lone l b (sym e ∙ ap (page pool') (sym p))))
+            (λ q. sym p ∙ q)
+            (has_push ks k l i))
+            (has_push ks k m h);
+      };
     }
+
+pub laid_more : (n : ℕ) (ks words pool row content pool₁ : List ℕ) (k : ℕ) (pool₂ : List ℕ) → n < length row → content ≡ page words n
+    → Laid n ks words pool row pool₁ → Placed (ks ++ take n row) content pool₁ k pool₂ → Laid (n + 1) ks words pool (set row n k) pool₂
+laid_more n ks words pool row content pool₁ k pool₂ lt is d s =
+    record {
+      holds = λ i h.
+          ⊎_elim
+          (λ b.
+          ap (page pool₂) (get_or-set_other row n i k 0 (λ e. omega arith)) ∙
+          s.stays.pages (get_or row i 0) (has_right ks (take n row) (get_or row i 0) (has_at row i n b (omega arith))) ∙ d.holds i b)
+          (λ b. let e : i ≡ n = omega arith in
+          ap (λ j. page pool₂ (get_or (set row n k) j 0)) e ∙ ap (page pool₂) (get_or-set_same row n k 0 lt) ∙ s.holds ∙ is ∙ ap (page words) (sym e))
+          (cases_lt i n);
+      stays = record {
+        pages = λ l h. s.stays.pages l (has_left ks (take n row) l h) ∙ d.stays.pages l h;
+        behind = λ z h. s.stays.behind z (omega (arith, d.stays.size)) ∙ d.stays.behind z h;
+        size = s.stays.size ∙ d.stays.size;
+      };
+      kept = subst (λ l. Kept l pool₂) (append_assoc ks (take n row) (k ∷ []) ∙ ap (λ l. ks ++ l) (sym (take_more_set row n k lt))) s.kept;
+    }
+
+pub placed_found : (ks content pool : List ℕ) (q k : ℕ) → find (λ l. same (page pool l) content && has ks l) (range_with_len 0 q) ≡ Some k → Kept ks pool → Placed ks content pool k pool
+placed_found ks content pool q k e kept =
+    let f = found (λ l. same (page pool l) content && has ks l) 0 q k e in
+    let b = and_parts (same (page pool k) content) (has ks k) f.0 in
+    placed_known ks content pool k b.1 (same_equal (page pool k) content b.0) kept
+
+pub placed_new : (ks content pool : List ℕ) (k : ℕ) (pool' : List ℕ) → find (λ l. same (page pool l) content && has ks l) (range_with_len 0 (whole (length pool))) ≡ None
+    → k < whole (length pool) → has ks k ≡ false
+    → page pool' k ≡ content → ((l : ℕ) → (l ≡ k → ⊥) → page pool' l ≡ page pool l)
+    → StaysBehind pool pool' → length pool' ≡ length pool
+    → Kept ks pool → Placed ks content pool k pool'
+placed_new ks content pool k pool' e low unused holds others behind size kept =
+    placed_fresh ks content pool k pool' low unused
+    (λ l h i q.
+    not_both (same (page pool l) content && has ks l)
+    (and_from (same (page pool l) content) (has ks l) (ap (same (page pool l)) (sym q) ∙ same_self (page pool l)) i)
+    (not_found (λ l. same (page pool l) content && has ks l) 0 (whole (length pool)) e l (omega arith) (omega arith)))
+    holds others behind size kept

@@ -1,8 +1,7 @@
--- Pages of four words: how many there are, and where a snapshot's pages are noted.
-use Rattle.std.specs.Prelude.{ℕ, ◌+◌, ◌*◌, ◌/◌, ◌<◌, ◌≤◌, min, cond, Ok, Err, Result, nat_le}
+-- Pages of four words: how many there are, how many a snapshot has, how many slots there are.
+use Rattle.std.specs.Prelude.{ℕ, ◌+◌, ◌*◌, ◌/◌, ◌<◌, ◌≤◌, min, ◌&&◌, if◌then◌else◌, Ok, Err, Result, nat_le}
 use Rattle.std.proofs.Common.{div-mul-le_self, arith}
 use Rattle.std.proofs.lemmas.Nat.{mul-le}
-use Rattle.std.proofs.lemmas.Bool.{leb-true, cond_both}
 use Rattle.terms.specs.declared.Refusal.{Refusal}
 use Rattle.terms.specs.declared.Refusal.TheVariants.{WrongWidth, BadPool}
 
@@ -17,11 +16,11 @@ whole room = room / 4
 -- a width outside 1 to 32 is refused, then a pool of fewer pages than a snapshot has, or of more than 1,024
 abbrev pub checking : (width room : ℕ) → Result (Unit {0}) Refusal
 checking width room =
-    cond (nat_le 1 width) (cond (nat_le width 32) (cond (nat_le (pages_in width) (whole room)) (cond (nat_le (whole room) 1024) (Ok tt) (Err BadPool)) (Err BadPool)) (Err WrongWidth)) (Err WrongWidth)
+    if nat_le 1 width && nat_le width 32 then (if nat_le (pages_in width) (whole room) && nat_le (whole room) 1024 then Ok tt else Err BadPool) else Err WrongWidth
 
 -- the number of slots: as many as have pages of their own at all times, 32 at most; none where the check refuses
 abbrev pub count : (width room : ℕ) → ℕ
-count width room = cond (nat_le 1 width) (cond (nat_le width 32) (cond (nat_le (whole room) 1024) (min 32 (whole room / pages_in width)) 0) 0) 0
+count width room = if nat_le 1 width && nat_le width 32 && nat_le (whole room) 1024 then min 32 (whole room / pages_in width) else 0
 
 -- what a slot there is tells of width and pool
 pub record Room (width room : ℕ) : Type 0 where
@@ -32,39 +31,11 @@ pub record Room (width room : ℕ) : Type 0 where
   pub fits : count width room * pages_in width ≤ whole room
 
 pub count_few : (width room : ℕ) → count width room ≤ 32
-count_few width room =
-    cond_both (nat_le 1 width) (cond (nat_le width 32) (cond (nat_le (whole room) 1024) (min 32 (whole room / pages_in width)) 0) 0) 0 (λ n. n ≤ 32)
-    (λ _. cond_both (nat_le width 32) (cond (nat_le (whole room) 1024) (min 32 (whole room / pages_in width)) 0) 0 (λ n. n ≤ 32)
-    (λ _. cond_both (nat_le (whole room) 1024) (min 32 (whole room / pages_in width)) 0 (λ n. n ≤ 32) (λ _. omega arith) (λ _. omega arith))
-    (λ _. omega arith))
-    (λ _. omega arith)
+count_few width room = grind arith
 
 pub count_fits : (width room : ℕ) → count width room * pages_in width ≤ whole room
 count_fits width room =
-    cond_both (nat_le 1 width) (cond (nat_le width 32) (cond (nat_le (whole room) 1024) (min 32 (whole room / pages_in width)) 0) 0) 0 (λ n. n * pages_in width ≤ whole room)
-    (λ _. cond_both (nat_le width 32) (cond (nat_le (whole room) 1024) (min 32 (whole room / pages_in width)) 0) 0 (λ n. n * pages_in width ≤ whole room)
-    (λ _. cond_both (nat_le (whole room) 1024) (min 32 (whole room / pages_in width)) 0 (λ n. n * pages_in width ≤ whole room)
-    (λ _. omega (arith, mul-le (min 32 (whole room / pages_in width)) (pages_in width) (whole room / pages_in width) (pages_in width) (omega arith) (omega arith), div-mul-le_self (whole room) (pages_in width)))
-    (λ _. omega arith))
-    (λ _. omega arith))
-    (λ _. omega arith)
+    grind (arith, mul-le (min 32 (whole room / pages_in width)) (pages_in width) (whole room / pages_in width) (pages_in width) (omega arith) (omega arith), div-mul-le_self (whole room) (pages_in width))
 
 pub roomy : (width room slot : ℕ) → slot < count width room → Room width room
-roomy width room slot h =
-    record {
-      some =
-          cond_both (nat_le 1 width) (cond (nat_le width 32) (cond (nat_le (whole room) 1024) (min 32 (whole room / pages_in width)) 0) 0) 0 (λ n. slot < n → 1 ≤ width)
-          (λ e _. leb-true 1 width e) (λ _ l. omega arith) h;
-      narrow =
-          cond_both (nat_le 1 width) (cond (nat_le width 32) (cond (nat_le (whole room) 1024) (min 32 (whole room / pages_in width)) 0) 0) 0 (λ n. slot < n → width ≤ 32)
-          (λ _. cond_both (nat_le width 32) (cond (nat_le (whole room) 1024) (min 32 (whole room / pages_in width)) 0) 0 (λ n. slot < n → width ≤ 32) (λ e _. leb-true width 32 e) (λ _ l. omega arith))
-          (λ _ l. omega arith) h;
-      pool =
-          cond_both (nat_le 1 width) (cond (nat_le width 32) (cond (nat_le (whole room) 1024) (min 32 (whole room / pages_in width)) 0) 0) 0 (λ n. slot < n → whole room ≤ 1024)
-          (λ _. cond_both (nat_le width 32) (cond (nat_le (whole room) 1024) (min 32 (whole room / pages_in width)) 0) 0 (λ n. slot < n → whole room ≤ 1024)
-          (λ _. cond_both (nat_le (whole room) 1024) (min 32 (whole room / pages_in width)) 0 (λ n. slot < n → whole room ≤ 1024) (λ e _. leb-true (whole room) 1024 e) (λ _ l. omega arith))
-          (λ _ l. omega arith))
-          (λ _ l. omega arith) h;
-      few = count_few width room;
-      fits = count_fits width room;
-    }
+roomy width room slot h = record { some = grind arith; narrow = grind arith; pool = grind arith; few = count_few width room; fits = count_fits width room }

@@ -1,68 +1,72 @@
--- A table of page numbers over a pool: what the slots hold, what is kept tidy, and the different pages.
-use Rattle.std.specs.Prelude.{◌≡◌, ℕ, ◌+◌, ◌-◌, ◌*◌, ◌/◌, ◌%◌, ◌<◌, ◌≤◌, Bool, true, false, cond, ◌&&◌, ◌||◌, List, [], ◌∷◌, ◌++◌, map, length, ◌==◌, ◌≢◌, slice_index}
+-- Rows of page numbers over a pool: what the slots hold, what is kept tidy, and the different pages.
+use Rattle.std.specs.Prelude.{◌≡◌, ℕ, ◌+◌, ◌*◌, ◌/◌, ◌%◌, ◌<◌, ◌≤◌, Bool, true, false, cond, ◌&&◌, ◌||◌, List, [], ◌∷◌, ◌++◌, map, take, length, Option, None, Some, ◌==◌, ◌≢◌, slice_index, slice_index_or}
 use Rattle.std.proofs.Common.{arith}
-use Rattle.std.specs.List.{range_with_len}
+use Rattle.std.specs.List.{list_any, range_with_len}
+use Rattle.std.proofs.lemmas.List.{length-map, length-take}
 use Rattle.std.proofs.lemmas.List.FromFn.{length-map-range_with_len}
-use Rattle.std.proofs.lemmas.Bool.{cond_both}
-use Rattle.store.specs.Counting.{numbered, numbered_sized}
-use Rattle.store.specs.Slots.{Slot, empty, held, Fit, Sized}
+use Rattle.store.specs.Slots.{Slot, empty, held, Sized}
 use Rattle.paging.specs.Layout.{pages_in, whole, count, count_few}
 
--- word t of the page that a number names: k + 1 names page k of the pool, 0 no page, of zeros
-abbrev pub at : (pool : List ℕ) (number t : ℕ) → ℕ
-at pool number t = cond (number == 0) 0 (slice_index pool (4 * (number - 1) + t))
+-- word t of a page of a pool
+abbrev pub at : (pool : List ℕ) (k t : ℕ) → ℕ
+at pool k t = slice_index pool (4 * k + t)
 
--- the number noted for page i of slot j
-abbrev pub noted : (table : List ℕ) (width j i : ℕ) → ℕ
-noted table width j i = slice_index table (j * pages_in width + i)
-
--- word i of slot j
-abbrev pub word : (table pool : List ℕ) (width j i : ℕ) → ℕ
-word table pool width j i = at pool (noted table width j (i / 4)) (i % 4)
-
--- the words of the pages noted from a place of the table on
-abbrev pub row : (table pool : List ℕ) (width base : ℕ) → List ℕ
-row table pool width base = map (λ i. at pool (slice_index table (base + i / 4)) (i % 4)) (range_with_len 0 width)
-
--- the words of slot j
-abbrev pub shot : (table pool : List ℕ) (width j : ℕ) → List ℕ
-shot table pool width j = map (word table pool width j) (range_with_len 0 width)
-
--- slot j: empty where it has no first page
-abbrev pub slot_of : (table pool : List ℕ) (width j : ℕ) → Slot
-slot_of table pool width j = cond (noted table width j 0 == 0) empty (held (shot table pool width j))
-
--- all slots
-abbrev pub slots_of : (table pool : List ℕ) (width : ℕ) → List Slot
-slots_of table pool width = numbered (slot_of table pool width) (count width (length pool))
-
--- each of the first `limit` numbers of the table names a page of the pool or none, and pages of equal words are one page
-pub record Kept (limit : ℕ) (table pool : List ℕ) : Type 0 where
-  pub named : (x : ℕ) → x < limit → slice_index table x ≤ whole (length pool)
-  pub shared : (x y : ℕ) → x < limit → y < limit → 1 ≤ slice_index table x → 1 ≤ slice_index table y
-      → ((t : ℕ) → t < 4 → at pool (slice_index table x) t ≡ at pool (slice_index table y) t) → slice_index table x ≡ slice_index table y
-
--- n slots are tidy: equal pages lie at one place, a held slot has all its pages and an empty one none, and last pages are filled up with zeros
-pub record Tidy (n : ℕ) (table pool : List ℕ) (width : ℕ) : Type 0 where
-  pub kept : Kept (n * pages_in width) table pool
-  pub full : (j i : ℕ) → j < n → i < pages_in width → 1 ≤ noted table width j 0 → 1 ≤ noted table width j i
-  pub bare : (j i : ℕ) → j < n → i < pages_in width → noted table width j 0 ≡ 0 → noted table width j i ≡ 0
-  pub padded : (j i t : ℕ) → j < n → i < pages_in width → t < 4 → width ≤ 4 * i + t → at pool (noted table width j i) t ≡ 0
-
--- so are all slots
-abbrev pub TidyAll : (table pool : List ℕ) (width : ℕ) → Type 0
-TidyAll table pool width = Tidy (count width (length pool)) table pool width
-
--- every slot but this one has the pages that it had, and each of them the words that it had
-abbrev pub Spared : (slot : ℕ) (table pool table' pool' : List ℕ) (width : ℕ) → Type 0
-Spared slot table pool table' pool' width =
-    (j i t : ℕ) → j < count width (length pool) → i < pages_in width → t < 4 → (j ≢ slot) → (noted table' width j i ≡ noted table width j i) × (at pool' (noted table width j i) t ≡ at pool (noted table width j i) t)
-
--- page i of a snapshot, zeros behind its end
+-- page i of a snapshot or of a pool, zeros behind its end
 abbrev pub page : (words : List ℕ) (i : ℕ) → List ℕ
 page words i = slice_index words (4 * i) ∷ slice_index words (4 * i + 1) ∷ slice_index words (4 * i + 2) ∷ slice_index words (4 * i + 3) ∷ []
 
--- its p pages
+-- the first p numbers of a row
+abbrev pub numbers : (p : ℕ) (row : List ℕ) → List ℕ
+numbers p row = map (slice_index row) (range_with_len 0 p)
+
+-- the words of the pages that a row names
+abbrev pub shot : (pool : List ℕ) (width : ℕ) (row : List ℕ) → List ℕ
+shot pool width row = map (λ i. at pool (slice_index row (i / 4)) (i % 4)) (range_with_len 0 width)
+
+-- a slot: empty where it has no row
+abbrev pub slot_of : (pool : List ℕ) (width : ℕ) → Option (List ℕ) → Slot
+slot_of pool width None = empty
+slot_of pool width (Some row) = held (shot pool width row)
+
+-- all slots
+abbrev pub slots_of : (rows : List (Option (List ℕ))) (pool : List ℕ) (width : ℕ) → List Slot
+slots_of rows pool width = map (slot_of pool width) (take (count width (length pool)) rows)
+
+-- the numbers that rows of p pages name
+abbrev pub named : (p : ℕ) → List (Option (List ℕ)) → List ℕ
+named p [] = []
+named p (None ∷ rows) = named p rows
+named p (Some row ∷ rows) = numbers p row ++ named p rows
+
+-- whether a number is among others
+abbrev pub has : List ℕ → ℕ → Bool
+has ks k = list_any (λ n. n == k) ks
+
+-- whether a slot's row of p pages names a page
+abbrev pub slot_names : (p k : ℕ) → Option (List ℕ) → Bool
+slot_names p k None = false
+slot_names p k (Some row) = has (numbers p row) k
+
+-- each of these numbers is that of a page of the pool, and pages of equal words are one page
+pub record Kept (ks pool : List ℕ) : Type 0 where
+  pub inside : (k : ℕ) → has ks k ≡ true → k < whole (length pool)
+  pub shared : (k l : ℕ) → has ks k ≡ true → has ks l ≡ true → page pool k ≡ page pool l → k ≡ l
+
+-- rows are tidy: equal pages lie at one place, and last pages are filled up with zeros
+pub record Tidy (rows : List (Option (List ℕ))) (pool : List ℕ) (width : ℕ) : Type 0 where
+  pub kept : Kept (named (pages_in width) rows) pool
+  pub padded : (j : ℕ) (row : List ℕ) (i t : ℕ) → slice_index_or rows j None ≡ Some row → i < pages_in width → t < 4 → width ≤ 4 * i + t → at pool (slice_index row i) t ≡ 0
+
+-- so are the rows of all slots
+abbrev pub TidyAll : (rows : List (Option (List ℕ))) (pool : List ℕ) (width : ℕ) → Type 0
+TidyAll rows pool width = Tidy (take (count width (length pool)) rows) pool width
+
+-- every slot but this one has the pages that it had, and each of them the words that it had
+abbrev pub Spared : (slot : ℕ) (rows : List (Option (List ℕ))) (pool : List ℕ) (rows' : List (Option (List ℕ))) (pool' : List ℕ) (width : ℕ) → Type 0
+Spared slot rows pool rows' pool' width =
+    (j : ℕ) → j < count width (length pool) → (j ≢ slot) → (slice_index_or rows' j None ≡ slice_index_or rows j None) × ((row : List ℕ) (i t : ℕ) → slice_index_or rows j None ≡ Some row → i < pages_in width → t < 4 → at pool' (slice_index row i) t ≡ at pool (slice_index row i) t)
+
+-- the p pages of a snapshot
 abbrev pub cut : (p : ℕ) (words : List ℕ) → List (List ℕ)
 cut p words = map (page words) (range_with_len 0 p)
 
@@ -90,13 +94,17 @@ different [] = 0
 different (x ∷ xs) = cond (among x xs) 0 1 + different xs
 
 -- the different pages among the held snapshots
-abbrev pub used : (table pool : List ℕ) (width : ℕ) → ℕ
-used table pool width = different (pages_of (pages_in width) (slots_of table pool width))
+abbrev pub used : (rows : List (Option (List ℕ))) (pool : List ℕ) (width : ℕ) → ℕ
+used rows pool width = different (pages_of (pages_in width) (slots_of rows pool width))
 
-pub slots_few : (table pool : List ℕ) (width : ℕ) → length (slots_of table pool width) ≤ 64
-slots_few table pool width = omega (arith, length-map-range_with_len (slot_of table pool width) 0 (count width (length pool)), count_few width (length pool))
+pub slots_few : (rows : List (Option (List ℕ))) (pool : List ℕ) (width : ℕ) → length (slots_of rows pool width) ≤ 64
+slots_few rows pool width =
+    omega (arith, length-map (take (count width (length pool)) rows) (slot_of pool width), length-take (count width (length pool)) rows, count_few width (length pool))
 
-pub slots_sized : (table pool : List ℕ) (width : ℕ) → Sized width (slots_of table pool width)
-slots_sized table pool width =
-    numbered_sized width (slot_of table pool width) 0 (count width (length pool))
-    (λ j _ _. cond_both (noted table width j 0 == 0) empty (held (shot table pool width j)) (Fit width) (λ _. tt) (λ _. length-map-range_with_len (word table pool width j) 0 width))
+rows_sized : (pool : List ℕ) (width : ℕ) (rows : List (Option (List ℕ))) → Sized width (map (slot_of pool width) rows)
+rows_sized pool width [] = tt
+rows_sized pool width (None ∷ rows) = (tt, rows_sized pool width rows)
+rows_sized pool width (Some row ∷ rows) = (length-map-range_with_len (λ i. at pool (slice_index row (i / 4)) (i % 4)) 0 width, rows_sized pool width rows)
+
+pub slots_sized : (rows : List (Option (List ℕ))) (pool : List ℕ) (width : ℕ) → Sized width (slots_of rows pool width)
+slots_sized rows pool width = rows_sized pool width (take (count width (length pool)) rows)

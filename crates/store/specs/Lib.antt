@@ -1,3 +1,4 @@
 pub mod Slots
 pub mod Pairs
 pub mod Counting
+pub mod Sides

@@ -1,29 +1,15 @@
-use Rattle.std.proofs.Common.{◌<◌, ◌≤◌, length, refl, arith}
-use Rattle.store.proofs.Refused.{no_free}
-use Rattle.store.proofs.Paired.{free_first, free_second}
-use Rattle.store.specs.Pairs.{paired}
+use Rattle.std.proofs.Common.{◌≡◌, ◌+◌, ◌<◌, length, subst, sym}
+use Rattle.store.proofs.Paired.{set_first, set_second}
+use Rattle.store.specs.Sides.{Lies}
+use Rattle.store.specs.Slots.{empty}
 use Rattle.store.proofs.pair.PairStore.free.Goals as goal
 
-pub returns-then-slot-capacity : goal.returns-then-slot-capacity
-returns-then-slot-capacity g c =
-    let h : length (paired (g.F.Store.wide c.args.self.now.first) (g.S.Store.wide c.args.self.now.second) (g.F.Store.slots c.args.self.now.first) (g.S.Store.slots c.args.self.now.second)) ≤ c.args.slot = omega arith in
-    let e = no_free (paired (g.F.Store.wide c.args.self.now.first) (g.S.Store.wide c.args.self.now.second) (g.F.Store.slots c.args.self.now.first) (g.S.Store.slots c.args.self.now.second)) c.args.slot h in
-    record { value = e.0; after = e.1; width = refl; tidy = λ t. t }
+pub returns-in-First-clause-after : goal.returns-in-First-clause-after
+returns-in-First-clause-after g c =
+    let p : (c.in-First.at ≡ c.args.slot) × (c.args.slot < length (g.F.Store.slots c.args.self.now.first)) = subst (Lies (length (g.F.Store.slots c.args.self.now.first)) c.args.slot) c.in-First.is c.in_ok-at.ensures.side in
+    rw (c.free.ensures.width, c.free.ensures.after, p.0) (set_first (g.F.Store.wide c.args.self.now.first) (g.S.Store.wide c.args.self.now.second) (g.F.Store.slots c.args.self.now.first) (g.S.Store.slots c.args.self.now.second) c.args.slot empty p.1)
 
-pub returns-then-slot-own : goal.returns-then-slot-own
-returns-then-slot-own g c =
-    let h : c.args.slot < length (paired (g.F.Store.wide c.args.self.now.first) (g.S.Store.wide c.args.self.now.second) (g.F.Store.slots c.args.self.now.first) (g.S.Store.slots c.args.self.now.second)) = omega arith in
-    let k : c.args.slot < length (g.F.Store.slots c.args.self.now.first) = omega arith in
-    let e = free_first (g.F.Store.wide c.args.self.now.first) (g.S.Store.wide c.args.self.now.second) (g.F.Store.slots c.args.self.now.first) (g.S.Store.slots c.args.self.now.second) c.args.slot h k in
-    let e0 = e.0 in
-    let e1 = e.1 in
-    record { value = cc; after = cc; width = c.free.ensures.width; tidy = λ t. (c.free.ensures.tidy t.0, t.1) }
-
-pub returns-else-slot-own : goal.returns-else-slot-own
-returns-else-slot-own g c =
-    let h : c.args.slot < length (paired (g.F.Store.wide c.args.self.now.first) (g.S.Store.wide c.args.self.now.second) (g.F.Store.slots c.args.self.now.first) (g.S.Store.slots c.args.self.now.second)) = omega arith in
-    let k : length (g.F.Store.slots c.args.self.now.first) ≤ c.args.slot = omega arith in
-    let e = free_second (g.F.Store.wide c.args.self.now.first) (g.S.Store.wide c.args.self.now.second) (g.F.Store.slots c.args.self.now.first) (g.S.Store.slots c.args.self.now.second) c.args.slot h k in
-    let e0 = e.0 in
-    let e1 = e.1 in
-    record { value = cc; after = cc; width = refl; tidy = λ t. (t.0, c.free-else-slot-own.ensures.tidy t.1) }
+pub returns-in-Second-clause-after : goal.returns-in-Second-clause-after
+returns-in-Second-clause-after g c =
+    let p : length (g.F.Store.slots c.args.self.now.first) + c.in-Second.at ≡ c.args.slot = subst (Lies (length (g.F.Store.slots c.args.self.now.first)) c.args.slot) c.in-Second.is c.in_ok-at.ensures.side in
+    rw (c.free-in-Second.ensures.width, c.free-in-Second.ensures.after, sym p) (set_second (g.F.Store.wide c.args.self.now.first) (g.S.Store.wide c.args.self.now.second) (g.F.Store.slots c.args.self.now.first) (g.S.Store.slots c.args.self.now.second) c.in-Second.at empty)

@@ -1,29 +1,14 @@
-use Rattle.std.proofs.Common.{◌<◌, ◌≤◌, length, refl, arith}
-use Rattle.store.proofs.Refused.{no_put}
-use Rattle.store.proofs.Paired.{put_first, put_second}
-use Rattle.store.specs.Pairs.{paired}
+use Rattle.std.proofs.Common.{◌≡◌, ◌+◌, ◌<◌, length, subst, sym}
+use Rattle.store.proofs.Paired.{put_first, put_second, same_width}
+use Rattle.store.specs.Sides.{Lies}
 use Rattle.store.proofs.pair.PairStore.put.Goals as goal
 
-pub returns-then-slot-capacity : goal.returns-then-slot-capacity
-returns-then-slot-capacity g c =
-    let h : length (paired (g.F.Store.wide c.args.self.now.first) (g.S.Store.wide c.args.self.now.second) (g.F.Store.slots c.args.self.now.first) (g.S.Store.slots c.args.self.now.second)) ≤ c.args.slot = omega arith in
-    let e = no_put (g.F.Store.wide c.args.self.now.first) (paired (g.F.Store.wide c.args.self.now.first) (g.S.Store.wide c.args.self.now.second) (g.F.Store.slots c.args.self.now.first) (g.S.Store.slots c.args.self.now.second)) c.args.slot c.args.words.now h in
-    record { value = e.0; after = e.1; width = refl; tidy = λ t. t }
+pub returns-in-First-clause-after : goal.returns-in-First-clause-after
+returns-in-First-clause-after g c =
+    let p : (c.in-First.at ≡ c.args.slot) × (c.args.slot < length (g.F.Store.slots c.args.self.now.first)) = subst (Lies (length (g.F.Store.slots c.args.self.now.first)) c.args.slot) c.in-First.is c.in_ok-at.ensures.side in
+    rw (c.put.ensures.width, c.put.ensures.after, p.0) (put_first (g.F.Store.wide c.args.self.now.first) (g.S.Store.wide c.args.self.now.second) (g.F.Store.slots c.args.self.now.first) (g.S.Store.slots c.args.self.now.second) c.args.slot c.args.words.now p.1)
 
-pub returns-then-slot-own : goal.returns-then-slot-own
-returns-then-slot-own g c =
-    let h : c.args.slot < length (paired (g.F.Store.wide c.args.self.now.first) (g.S.Store.wide c.args.self.now.second) (g.F.Store.slots c.args.self.now.first) (g.S.Store.slots c.args.self.now.second)) = omega arith in
-    let k : c.args.slot < length (g.F.Store.slots c.args.self.now.first) = omega arith in
-    let e = put_first (g.F.Store.wide c.args.self.now.first) (g.S.Store.wide c.args.self.now.second) (g.F.Store.slots c.args.self.now.first) (g.S.Store.slots c.args.self.now.second) c.args.slot c.args.words.now h k in
-    let e0 = e.0 in
-    let e1 = e.1 in
-    record { value = cc; after = cc; width = c.put.ensures.width; tidy = λ t. (c.put.ensures.tidy t.0, t.1) }
-
-pub returns-else-slot-own : goal.returns-else-slot-own
-returns-else-slot-own g c =
-    let h : c.args.slot < length (paired (g.F.Store.wide c.args.self.now.first) (g.S.Store.wide c.args.self.now.second) (g.F.Store.slots c.args.self.now.first) (g.S.Store.slots c.args.self.now.second)) = omega arith in
-    let k : length (g.F.Store.slots c.args.self.now.first) ≤ c.args.slot = omega arith in
-    let e = put_second (g.F.Store.wide c.args.self.now.first) (g.S.Store.wide c.args.self.now.second) (g.F.Store.slots c.args.self.now.first) (g.S.Store.slots c.args.self.now.second) c.args.slot c.args.words.now h k in
-    let e0 = e.0 in
-    let e1 = e.1 in
-    record { value = cc; after = cc; width = refl; tidy = λ t. (t.0, c.put-else-slot-own.ensures.tidy t.1) }
+pub returns-in-Second-clause-after : goal.returns-in-Second-clause-after
+returns-in-Second-clause-after g c =
+    let p : length (g.F.Store.slots c.args.self.now.first) + c.in-Second.at ≡ c.args.slot = subst (Lies (length (g.F.Store.slots c.args.self.now.first)) c.args.slot) c.in-Second.is c.in_ok-at.ensures.side in
+    rw (c.put-in-Second.ensures.width, c.put-in-Second.ensures.after, sym p) (put_second (g.F.Store.wide c.args.self.now.first) (g.S.Store.wide c.args.self.now.second) (g.F.Store.slots c.args.self.now.first) (g.S.Store.slots c.args.self.now.second) c.in-Second.at c.args.words.now (same_width (g.F.Store.wide c.args.self.now.first) (g.S.Store.wide c.args.self.now.second) (g.F.Store.slots c.args.self.now.first) (g.S.Store.slots c.args.self.now.second) c.args.slot c.in_ok-at.ensures.within))

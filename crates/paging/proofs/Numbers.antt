@@ -1,0 +1,112 @@
+-- Numbers among others.
+use Rattle.std.proofs.Common.{◌≡◌, ℕ, zero, suc, ◌+◌, ◌<◌, ◌≤◌, Bool, true, false, eqb, ◌==◌, ◌||◌, ◌⊎◌, Option, None, Some, List, [], ◌∷◌, ◌++◌, map, length, get_or, take, sym, refl, ap, ◌∙◌, inl, inr, ⊎_elim, arith}
+use Rattle.std.specs.List.{list_any, find, range_with_len}
+use Rattle.std.proofs.lemmas.List.Folds.{list_any-append, list_any_at}
+use Rattle.std.proofs.lemmas.List.FromFn.{length-map-range_with_len, get_or-map-range_with_len}
+use Rattle.std.proofs.lemmas.List.{ext_get_or, get_or-take, length-take-le}
+use Rattle.std.proofs.lemmas.Bool.{cases_Bool, cases_eq, cond-true, cond-false, eq-eqb, eqb-true, and_parts, and_from}
+use Rattle.paging.specs.Pages.{numbers, named, has, slot_names, same}
+
+true_or : (a b : Bool) → a ≡ true → (a || b) ≡ true
+true_or a b e = ap (λ x. x || b) e
+
+or_true : (a b : Bool) → b ≡ true → (a || b) ≡ true
+or_true true b e = refl
+or_true false b e = e
+
+or_cases : (a b : Bool) → (a || b) ≡ true → (a ≡ true) ⊎ (b ≡ true)
+or_cases true b e = inl refl
+or_cases false b e = inr e
+
+pub has_left : (xs ys : List ℕ) (k : ℕ) → has xs k ≡ true → has (xs ++ ys) k ≡ true
+has_left xs ys k h = list_any-append (λ n. n == k) xs ys ∙ true_or (has xs k) (has ys k) h
+
+pub has_right : (xs ys : List ℕ) (k : ℕ) → has ys k ≡ true → has (xs ++ ys) k ≡ true
+has_right xs ys k h = list_any-append (λ n. n == k) xs ys ∙ or_true (has xs k) (has ys k) h
+
+pub has_append : (xs ys : List ℕ) (k : ℕ) → has (xs ++ ys) k ≡ true → (has xs k ≡ true) ⊎ (has ys k ≡ true)
+has_append xs ys k h = or_cases (has xs k) (has ys k) (sym (list_any-append (λ n. n == k) xs ys) ∙ h)
+
+pub has_push : (ks : List ℕ) (k m : ℕ) → has (ks ++ k ∷ []) m ≡ true → (has ks m ≡ true) ⊎ (k ≡ m)
+has_push ks k m h =
+    ⊎_elim (λ a. inl a)
+    (λ b. ⊎_elim (λ e. inr (eqb-true k m e)) (λ e. absurd (false_true e)) (or_cases (eqb k m) false b))
+    (has_append ks (k ∷ []) m h)
+  where
+    false_true : false ≡ true → ⊥
+    false_true e = cc
+
+-- a number stands among the first n
+pub has_at : (xs : List ℕ) (i n : ℕ) → i < n → n ≤ length xs → has (take n xs) (get_or xs i 0) ≡ true
+has_at xs i n lt le =
+    list_any_at (λ m. m == get_or xs i 0) (take n xs) i 0 (omega (arith, length-take-le n xs le)) (eq-eqb (get_or (take n xs) i 0) (get_or xs i 0) (get_or-take n xs i 0 lt))
+
+-- two lists told by the place
+pub counted_same : {X : Type 0} (d : X) (f g : ℕ → X) (n : ℕ) → ((i : ℕ) → i < n → f i ≡ g i) → map f (range_with_len 0 n) ≡ map g (range_with_len 0 n)
+counted_same d f g n all =
+    ext_get_or d (map f (range_with_len 0 n)) (map g (range_with_len 0 n)) (length-map-range_with_len f 0 n ∙ sym (length-map-range_with_len g 0 n))
+    (λ i h.
+    let k : i < n = omega (arith, length-map-range_with_len f 0 n) in
+    get_or-map-range_with_len f 0 n i i d k (omega arith) ∙ all i k ∙ sym (get_or-map-range_with_len g 0 n i i d k (omega arith)))
+
+pub counted_is : (f : ℕ → ℕ) (words : List ℕ) (n : ℕ) → length words ≡ n → ((i : ℕ) → i < n → f i ≡ get_or words i 0) → map f (range_with_len 0 n) ≡ words
+counted_is f words n e all =
+    ext_get_or 0 (map f (range_with_len 0 n)) words (length-map-range_with_len f 0 n ∙ sym e)
+    (λ i h.
+    let k : i < n = omega (arith, length-map-range_with_len f 0 n) in
+    get_or-map-range_with_len f 0 n i i 0 k (omega arith) ∙ all i k)
+
+-- the first p numbers of a row that is long enough
+pub numbers_taken : (p : ℕ) (row : List ℕ) → p ≤ length row → numbers p row ≡ take p row
+numbers_taken p row le =
+    counted_is (λ i. get_or row i 0) (take p row) p (length-take-le p row le) (λ i h. sym (get_or-take p row i 0 h))
+
+pub numbers_at : (p : ℕ) (row : List ℕ) (i : ℕ) → i < p → has (numbers p row) (get_or row i 0) ≡ true
+numbers_at p row i h =
+    list_any_at (λ m. m == get_or row i 0) (numbers p row) i 0 (omega (arith, length-map-range_with_len (λ i. get_or row i 0) 0 p))
+    (eq-eqb (get_or (numbers p row) i 0) (get_or row i 0) (get_or-map-range_with_len (λ i. get_or row i 0) 0 p i i 0 h (omega arith)))
+
+-- the numbers that rows name, row by row
+pub named_any : (p : ℕ) (rows : List (Option (List ℕ))) (k : ℕ) → list_any (slot_names p k) rows ≡ has (named p rows) k
+named_any p [] k = refl
+named_any p (None ∷ rows) k = named_any p rows k
+named_any p (Some row ∷ rows) k = ap (λ b. has (numbers p row) k || b) (named_any p rows k) ∙ sym (list_any-append (λ n. n == k) (numbers p row) (named p rows))
+
+-- the first number below n that passes a test
+pub found : (p : ℕ → Bool) (a n k : ℕ) → find p (range_with_len a n) ≡ Some k → (p k ≡ true) × (k < a + n)
+found p a zero k e = absurd (cc)
+found p a (suc n) k e =
+    ⊎_elim
+    (λ t. let q : a ≡ k = some_same a k (sym (cond-true (p a) (Some a) (find p (range_with_len (a + 1) n)) t) ∙ e) in (ap p (sym q) ∙ t, omega (arith, q)))
+    (λ f. let v = found p (a + 1) n k (sym (cond-false (p a) (Some a) (find p (range_with_len (a + 1) n)) f) ∙ e) in (v.0, omega (arith, v.1)))
+    (cases_Bool (p a))
+  where
+    some_same : (x y : ℕ) → Some x ≡ Some y → x ≡ y
+    some_same x y e = cc
+
+pub not_found : (p : ℕ → Bool) (a n : ℕ) → find p (range_with_len a n) ≡ None → (k : ℕ) → a ≤ k → k < a + n → p k ≡ false
+not_found p a zero e k h l = absurd (omega arith)
+not_found p a (suc n) e k h l =
+    ⊎_elim
+    (λ t. let s = sym (cond-true (p a) (Some a) (find p (range_with_len (a + 1) n)) t) ∙ e in absurd (cc))
+    (λ f.
+    ⊎_elim (λ q. ap p q ∙ f)
+    (λ ne. not_found p (a + 1) n (sym (cond-false (p a) (Some a) (find p (range_with_len (a + 1) n)) f) ∙ e) k (omega (arith, ne)) (omega arith))
+    (cases_eq k a))
+    (cases_Bool (p a))
+
+pub has_either : (xs ys : List ℕ) (k : ℕ) → has xs k ≡ false → has ys k ≡ has (xs ++ ys) k
+has_either xs ys k h = sym (list_any-append (λ n. n == k) xs ys ∙ ap (λ b. b || has ys k) h)
+
+-- pages of equal words are the same
+pub same_self : (x : List ℕ) → same x x ≡ true
+same_self [] = refl
+same_self (x ∷ xs) = and_from (x == x) (same xs xs) (eq-eqb x x refl) (same_self xs)
+
+pub same_equal : (x y : List ℕ) → same x y ≡ true → x ≡ y
+same_equal [] [] e = refl
+same_equal [] (y ∷ ys) e = absurd (cc)
+same_equal (x ∷ xs) [] e = absurd (cc)
+same_equal (x ∷ xs) (y ∷ ys) e =
+    let p = and_parts (x == y) (same xs ys) e in
+    ap (λ n. n ∷ xs) (eqb-true x y p.0) ∙ ap (λ l. y ∷ l) (same_equal xs ys p.1)
