@@ -16,7 +16,7 @@ pub record Climbed (l s r top below under : ℕ) : Type 0 where
   pub short : (k : ℕ) → k < r → reach s k < l
 
 pub climb_start : (l s : ℕ) → Climbed l s 0 1 0 0
-climb_start l s = record { here = sym (reach_none s); last = sym (before_none s); past = sym (before_none s); short = λ k h. absurd (omega arith) }
+climb_start l s = omega (arith, reach_none, before_none)
 
 pub climb_next : (l s r top below under : ℕ) → top < l → Climbed l s r top below under → Climbed l s (r + 1) (top * (s + (r + 1)) / (r + 1)) top below
 climb_next l s r top below under lt c =
@@ -54,8 +54,7 @@ pub rounds_one : (l : ℕ) → rounds l 1 ≡ l - 1
 rounds_one l = rounds_is l 1 (l - 1) (omega arith) (omega (arith, reach_one (l - 1))) (λ k h. omega (arith, reach_one k))
 
 pub climbed_one : (l r : ℕ) → r ≡ l - 1 → Climbed l 1 r (r + 1) r (r - 1)
-climbed_one l r e =
-    record { here = omega (arith, reach_one r); last = sym (before_one r); past = sym (before_one (r - 1)); short = λ k h. omega (arith, reach_one k) }
+climbed_one l r e = omega (arith, reach_one, before_one)
 
 -- B(g − 1, r) = B(g, r) − B(g, r − 1)
 pub reach_narrower : (g r : ℕ) → 1 ≤ g → reach g r - before g r ≡ reach (g - 1) r
@@ -78,11 +77,10 @@ pub below_top : (m g top below : ℕ) → top ≡ reach g (rounds m g) → below
 below_top m g top below e f = omega (arith, before_suc g (rounds m g), before_mono g g (rounds m g) (suc (rounds m g)) (omega arith) (omega arith))
 
 pub spared : (l s r top : ℕ) → r ≡ rounds l s → top ≡ reach s (rounds l s) → r * top / (s + 1) ≡ choose (s + rounds l s) (s + 1)
-spared l s r top e f =
-    ap (λ (n : ℕ). n * top / (s + 1)) e ∙ ap (λ (n : ℕ). rounds l s * n / (s + 1)) f ∙ choose_quotient s (rounds l s)
+spared l s r top e f = grind (arith, choose_quotient)
 
 pub count_room : (l s r top : ℕ) → r ≡ rounds l s → top ≡ reach s (rounds l s) → r * top / (s + 1) ≤ r * l
 count_room l s r top e f = omega (arith, spared l s r top e f, count_closed l s, ap (λ (n : ℕ). n * l) e)
 
 pub count_answer : (l s r top : ℕ) → r ≡ rounds l s → top ≡ reach s (rounds l s) → r * l - r * top / (s + 1) ≡ count l s
-count_answer l s r top e f = omega (arith, spared l s r top e f, count_closed l s, ap (λ (n : ℕ). n * l) e)
+count_answer l s r top e f = grind (arith, spared, count_closed)

@@ -1,5 +1,5 @@
 -- The number of repetitions is the least that reaches; the split lies inside its gap.
-use Rattle.std.proofs.Common.{◌≡◌, ℕ, zero, suc, ◌+◌, ◌-◌, ◌<◌, ◌≤◌, max, Bool, true, false, leb, sym, refl, ap, subst, inl, inr, zero-le, arith}
+use Rattle.std.proofs.Common.{◌≡◌, ℕ, zero, suc, ◌+◌, ◌-◌, ◌<◌, ◌≤◌, max, sym, refl, ap, subst, inl, inr, zero-le, arith}
 use Rattle.checkpoints.proofs.Pascal.{before_suc, before_first, before_pos, before_grows, before_mono, pascal}
 use Rattle.checkpoints.specs.Binomials.{reach, before}
 use Rattle.checkpoints.specs.Counts.{sought, rounds, split}
@@ -8,22 +8,13 @@ use Rattle.std.proofs.lemmas.Bool.{cases_lt, leb-true, leb-false}
 -- the search ends at a number that reaches, if `tries` more would, and passes none that does
 sought_reaches : (tries l s r : ℕ) → l ≤ reach s (r + tries) → l ≤ reach s (sought tries l s r)
 unfolding sought
-sought_reaches zero l s r h = omega (arith, h, ap (reach s) (let e : r + 0 ≡ r = omega arith in e))
-sought_reaches (suc tries) l s r h = go (leb l (reach s r)) refl (sought_reaches tries l s (suc r) (omega (arith, h, ap (reach s) (let e : r + suc tries ≡ suc r + tries = omega arith in e))))
-  where
-    go : (b : Bool) → leb l (reach s r) ≡ b → l ≤ reach s (sought tries l s (suc r)) → l ≤ reach s (elim b [ true ↦ r | false ↦ sought tries l s (suc r) ])
-    go true e ih = leb-true l (reach s r) e
-    go false e ih = ih
+sought_reaches zero l s r h = grind arith
+sought_reaches (suc tries) l s r h = grind (arith, sought_reaches tries l s (suc r) (omega (arith, h, ap (reach s) (let e : r + suc tries ≡ suc r + tries = omega arith in e))), leb-true)
 
 sought_least : (tries l s r k : ℕ) → r ≤ k → k < sought tries l s r → reach s k < l
 unfolding sought
 sought_least zero l s r k h i = omega arith
-sought_least (suc tries) l s r k h i = go (leb l (reach s r)) refl (sought_least tries l s (suc r) k) i
-  where
-    go : (b : Bool) → leb l (reach s r) ≡ b → (suc r ≤ k → k < sought tries l s (suc r) → reach s k < l) → k < elim b [ true ↦ r | false ↦ sought tries l s (suc r) ] → reach s k < l
-    go true e ih j = omega arith
-    go false e ih j =
-        elim (cases_lt r k) [ inl lt ↦ ih lt j | inr ge ↦ (let same : k ≡ r = omega arith in omega (arith, ap (reach s) same, leb-false l (reach s r) e)) ]
+sought_least (suc tries) l s r k h i = grind (arith, sought_least tries l s (suc r) k, cases_lt, leb-false)
 
 pub rounds_reach : (l s : ℕ) → 1 ≤ s → l ≤ reach s (rounds l s)
 unfolding rounds
@@ -59,14 +50,7 @@ pub record Between (m g r q : ℕ) : Type 0 where
   pub less : q < m
 
 between : (m g x q : ℕ) → 2 ≤ m → before (suc (suc g)) (suc x) < m → m ≤ before (suc (suc g)) (suc (suc x)) → q ≡ max 1 (max (before (suc (suc g)) x) (m - before (suc g) (suc (suc x)))) → Between m g (suc x) q
-between m g x q h above below e =
-    let p = pascal (suc g) x in
-    let p' = pascal (suc g) (suc x) in
-    let u = before_mono (suc (suc g)) (suc (suc g)) x (suc x) (omega arith) (omega arith) in
-    let v = before_mono (suc g) (suc g) (suc x) (suc (suc x)) (omega arith) (omega arith) in
-    let a = before_pos (suc (suc g)) x in
-    let b = before_pos (suc g) x in
-    record { low = omega (arith, ap (before (suc (suc g))) (let e : suc x - 1 ≡ x = omega arith in e)); high = omega arith; rest_low = omega arith; rest_high = omega arith; some = omega arith; less = omega arith }
+between m g x q h above below e = grind (arith, pascal, before_mono, before_pos)
 
 pub split_between : (m g : ℕ) → 2 ≤ m → Between m g (rounds m (suc (suc g))) (split m (suc (suc g)))
 unfolding split before

@@ -1,5 +1,5 @@
 -- What one back does: its cases, the held scans that it leaves, and its price.
-use Rattle.std.proofs.Common.{◌≡◌, ℕ, zero, suc, ◌+◌, ◌-◌, ◌*◌, ◌<◌, ◌≤◌, ltb, List, [], ◌∷◌, ◌++◌, length, replicate, sym, refl, ap, ◌∙◌, subst, inl, inr, append-nil, zero-le, arith, length-append}
+use Rattle.std.proofs.Common.{◌≡◌, ℕ, zero, suc, ◌+◌, ◌-◌, ◌*◌, ◌<◌, ◌≤◌, ltb, List, [], ◌∷◌, ◌++◌, length, replicate, sym, refl, ap, ◌∙◌, subst, inl, inr, zero-le, arith, length-append}
 use Rattle.checkpoints.proofs.Levels.{count_closed, count_short, count_split, count_one}
 use Rattle.checkpoints.proofs.Rounds.{split_some, split_less}
 use Rattle.checkpoints.specs.Backs.{Act, steps, snapshots, ascent, kept, top, refilled, refill_acts, back, back_acts, walk, walked, Rising, end, gaps, owed, Left}
@@ -18,13 +18,11 @@ snapshots_none (suc (suc g)) p m h = cond-false (ltb 1 m) _ [] (le-ltb 1 m h)
 
 pub snapshots_end : (g p m : ℕ) → m - split m (suc (suc g)) ≤ 1 → snapshots (suc (suc g)) p m ≡ []
 unfolding snapshots
-snapshots_end g p m h =
-    elim (cases_lt 1 m) [ inl lt ↦ cond-true (ltb 1 m) _ [] (lt-ltb 1 m lt) ∙ cond-false (ltb 1 (m - split m (suc (suc g)))) _ [] (le-ltb 1 (m - split m (suc (suc g))) h) | inr ge ↦ cond-false (ltb 1 m) _ [] (le-ltb 1 m ge) ]
+snapshots_end g p m h = grind arith
 
 pub snapshots_more : (g p m : ℕ) → 1 < m - split m (suc (suc g)) → snapshots (suc (suc g)) p m ≡ (p + split m (suc (suc g))) ∷ snapshots (suc g) (p + split m (suc (suc g))) (m - split m (suc (suc g)))
 unfolding snapshots
-snapshots_more g p m h =
-    cond-true (ltb 1 m) _ [] (lt-ltb 1 m (omega arith)) ∙ cond-true (ltb 1 (m - split m (suc (suc g)))) _ [] (lt-ltb 1 (m - split m (suc (suc g))) h)
+snapshots_more g p m h = grind arith
 
 pub ascent_one : (j m : ℕ) → ascent 1 j m ≡ replicate (m - 1) step
 unfolding ascent
@@ -33,18 +31,16 @@ ascent_one j m = refl
 pub ascent_none : (g j m : ℕ) → m ≤ 1 → ascent g j m ≡ []
 unfolding ascent
 ascent_none zero j m h = refl
-ascent_none (suc zero) j m h = ap (λ (k : ℕ). replicate k step) (let e : m - 1 ≡ 0 = omega arith in e)
+ascent_none (suc zero) j m h = grind arith
 ascent_none (suc (suc g)) j m h = cond-false (ltb 1 m) _ [] (le-ltb 1 m h)
 
 pub ascent_end : (g j m : ℕ) → 1 < m → m - split m (suc (suc g)) ≤ 1 → ascent (suc (suc g)) j m ≡ replicate (split m (suc (suc g))) step ++ []
 unfolding ascent
-ascent_end g j m h k =
-    cond-true (ltb 1 m) _ [] (lt-ltb 1 m h) ∙ ap (λ (w : List Act). replicate (split m (suc (suc g))) step ++ w) (cond-false (ltb 1 (m - split m (suc (suc g)))) _ [] (le-ltb 1 (m - split m (suc (suc g))) k))
+ascent_end g j m h k = grind arith
 
 pub ascent_more : (g j m : ℕ) → 1 < m - split m (suc (suc g)) → ascent (suc (suc g)) j m ≡ replicate (split m (suc (suc g))) step ++ put j ∷ ascent (suc g) (suc j) (m - split m (suc (suc g)))
 unfolding ascent
-ascent_more g j m h =
-    cond-true (ltb 1 m) _ [] (lt-ltb 1 m (omega arith)) ∙ ap (λ (w : List Act). replicate (split m (suc (suc g))) step ++ w) (cond-true (ltb 1 (m - split m (suc (suc g)))) _ [] (lt-ltb 1 (m - split m (suc (suc g))) h))
+ascent_more g j m h = grind arith
 
 -- ---- steps
 
@@ -75,30 +71,19 @@ rising_append n p (q ∷ ps) qs r t = (r.0, rising_append n q ps qs r.1 t)
 
 pub kept_in : (n p : ℕ) (ps : List ℕ) → p < n → kept n (p ∷ ps) ≡ p ∷ kept n ps
 unfolding kept
-kept_in n p ps h = cond-true (ltb p n) (p ∷ kept n ps) (kept n ps) (lt-ltb p n h)
-
-pub kept_out : (n p : ℕ) (ps : List ℕ) → n ≤ p → kept n (p ∷ ps) ≡ kept n ps
-unfolding kept
-kept_out n p ps h = cond-false (ltb p n) (p ∷ kept n ps) (kept n ps) (le-ltb p n h)
-
-pub kept_append : (n : ℕ) (ps qs : List ℕ) → kept n (ps ++ qs) ≡ kept n ps ++ kept n qs
-unfolding kept
-kept_append n [] qs = refl
-kept_append n (p ∷ ps) qs =
-    elim (cases_lt p n) [ inl lt ↦ kept_in n p (ps ++ qs) lt ∙ ap (λ (w : List ℕ). p ∷ w) (kept_append n ps qs) ∙ ap (λ (w : List ℕ). w ++ kept n qs) (sym (kept_in n p ps lt)) | inr ge ↦ kept_out n p (ps ++ qs) ge ∙ kept_append n ps qs ∙ ap (λ (w : List ℕ). w ++ kept n qs) (sym (kept_out n p ps ge)) ]
+kept_in n p ps h = grind arith
 
 -- held scans that are all below n are all kept
 pub kept_all : (n p : ℕ) (ps : List ℕ) → Rising n p ps → top p ps < n → kept n (p ∷ ps) ≡ p ∷ ps
 unfolding kept
 kept_all n p [] r h = kept_in n p [] h
-kept_all n p (q ∷ qs) r h =
-    kept_in n p (q ∷ qs) (omega (arith, rising_within n q qs r.1, r.0)) ∙ ap (λ (w : List ℕ). p ∷ w) (kept_all n q qs r.1 h)
+kept_all n p (q ∷ qs) r h = grind (arith, kept_all n q qs r.1 h, kept_in, rising_within)
 
 -- a scan at n is the last, and is not kept
 pub kept_at : (n p : ℕ) (ps : List ℕ) → Rising n p ps → n ≤ p → (ps ≡ []) × (kept n (p ∷ ps) ≡ [])
 unfolding kept
-kept_at n p [] r h = (refl, cond-false (ltb p n) (p ∷ []) [] (le-ltb p n h))
-kept_at n p (q ∷ qs) r h = absurd (omega (arith, rising_within n q qs r.1, r.0))
+kept_at n p [] r h = grind arith
+kept_at n p (q ∷ qs) r h = grind (arith, rising_within)
 
 pub kept_rising : (n p : ℕ) (ps : List ℕ) → Rising (suc n) p ps → p ≤ n → Rising n p (kept (suc n) ps)
 unfolding kept
@@ -109,8 +94,7 @@ kept_rising n p (q ∷ qs) r h =
 pub kept_length : (n : ℕ) (ps : List ℕ) → length (kept n ps) ≤ length ps
 unfolding kept
 kept_length n [] = omega arith
-kept_length n (p ∷ ps) =
-    elim (cases_lt p n) [ inl lt ↦ rw (cond-true (ltb p n) (p ∷ kept n ps) (kept n ps) (lt-ltb p n lt)) (omega (arith, kept_length n ps)) | inr ge ↦ rw (cond-false (ltb p n) (p ∷ kept n ps) (kept n ps) (le-ltb p n ge)) (omega (arith, kept_length n ps)) ]
+kept_length n (p ∷ ps) = grind (arith, kept_length n ps, cases_lt, cond-true, lt-ltb, cond-false, le-ltb)
 
 snapshots_rising : (g p m n : ℕ) → 1 ≤ m → suc n ≡ p + m → Rising n p (snapshots g p m)
 unfolding snapshots
@@ -122,26 +106,19 @@ snapshots_rising (suc (suc g)) p m n h e =
 snapshots_length : (g p m : ℕ) → length (snapshots (suc g) p m) ≤ g
 unfolding snapshots
 snapshots_length zero p m = omega arith
-snapshots_length (suc g) p m =
-    elim (cases_lt 1 (m - split m (suc (suc g)))) [ inl lt ↦ rw (snapshots_more g p m lt) (omega (arith, snapshots_length g (p + split m (suc (suc g))) (m - split m (suc (suc g))))) | inr ge ↦ rw (snapshots_end g p m ge) (omega arith) ]
+snapshots_length (suc g) p m = grind (arith, snapshots_length g (p + split m (suc (suc g))) (m - split m (suc (suc g))), cases_lt, snapshots_more, snapshots_end)
 
 -- one back, where the first held scan is below n: what is held after it, and its acts
 pub back_is : (s n p : ℕ) (ps : List ℕ) → p < n → back s n (p ∷ ps) ≡ p ∷ kept n ps ++ snapshots (s - length (kept n ps)) (top p (kept n ps)) (n - top p (kept n ps))
 unfolding refilled
 back_is s n p ps h = ap (refilled s n) (kept_in n p ps h)
 
-pub back_acts_is : (s n p : ℕ) (ps : List ℕ) → p < n → back_acts s n (p ∷ ps) ≡ restore (length (kept n ps)) ∷ ascent (s - length (kept n ps)) (suc (length (kept n ps))) (n - top p (kept n ps)) ++ show ∷ []
-unfolding refill_acts
-back_acts_is s n p ps h = ap (refill_acts s n) (kept_in n p ps h)
-
 -- the held scans above the first after a back from n + 1
 abbrev later : ℕ → ℕ → ℕ → List ℕ → List ℕ
 later s n p ks = ks ++ snapshots (s - length ks) (top p ks) (suc n - top p ks)
 
 later_rising : (s n p : ℕ) (ks : List ℕ) → Rising n p ks → Rising n p (later s n p ks)
-later_rising s n p ks r =
-    let t = rising_top n p ks r in
-    rising_append n p ks _ r (snapshots_rising (s - length ks) (top p ks) (suc n - top p ks) n (omega arith) (omega arith))
+later_rising s n p ks r = grind (arith, rising_top, rising_append, snapshots_rising)
 
 later_length : (s n p : ℕ) (ks : List ℕ) → length ks < s → length (later s n p ks) < s
 later_length s n p ks h =
@@ -150,9 +127,7 @@ later_length s n p ks h =
 
 -- a back keeps the first held scan, leaves the others rising and below n, and no more of them than slots
 pub back_left : (s n p : ℕ) (ps : List ℕ) → Rising (suc n) p ps → length ps < s → p ≤ n → Left s n p (back s (suc n) (p ∷ ps))
-back_left s n p ps r h i =
-    let ks = kept (suc n) ps in
-    record { rest = later s n p ks; is = back_is s (suc n) p ps (omega arith); rising = later_rising s n p ks (kept_rising n p ps r i); room = later_length s n p ks (omega (arith, kept_length (suc n) ps)) }
+back_left s n p ps r h i = grind (arith, back_is, later_rising, kept_rising, later_length, kept_length)
 
 -- ---- price
 
@@ -168,30 +143,20 @@ unfolding kept
 kept_nil n = refl
 
 kept_end : (n p : ℕ) (ps : List ℕ) → Rising n p ps → end n (kept n (p ∷ ps)) ≡ p
-kept_end n p ps r =
-    elim (cases_lt p n) [ inl lt ↦ rw (kept_in n p ps lt) refl | inr ge ↦ rw (kept_at n p ps r ge).1 (omega (arith, rising_within n p ps r)) ]
+kept_end n p ps r = grind (arith, cases_lt, kept_in, kept_at, rising_within)
 
 pub kept_gaps : (s n p : ℕ) (ps : List ℕ) → Rising n p ps → gaps s n (kept n (p ∷ ps)) ≡ gaps s n (p ∷ ps)
-kept_gaps s n p [] r =
-    elim (cases_lt p n) [ inl lt ↦ ap (gaps s n) (kept_in n p [] lt ∙ ap (λ (ks : List ℕ). p ∷ ks) (kept_nil n)) | inr ge ↦ ap (gaps s n) (kept_at n p [] r ge).1 ∙ omega (arith, count_zero (n - p) s (omega arith)) ]
+kept_gaps s n p [] r = grind (arith, cases_lt, kept_in, kept_nil, kept_at, count_zero)
 kept_gaps s n p (q ∷ qs) r =
     ap (gaps s n) (kept_in n p (q ∷ qs) (omega (arith, rising_within n q qs r.1, r.0)))
     ∙ omega (arith, kept_gaps (s - 1) n q qs r.1, ap (λ (d : ℕ). count (d - p) s) (kept_end n q qs r.1))
 
 -- the gap above p costs the steps of the way up and what is owed after it
 ascent_last : (g p j m n : ℕ) → 1 < m → suc n ≡ p + m → m - split m (suc (suc g)) ≤ 1 → gaps (suc (suc g)) n (p ∷ snapshots (suc (suc g)) p m) + steps (ascent (suc (suc g)) j m) ≡ count m (suc (suc g))
-ascent_last g p j m n big e ge =
-    let q : ℕ = split m (suc (suc g)) in
-    let u : q < m = split_less m (suc (suc g)) (omega arith) (omega arith) in
-    rw (snapshots_end g p m ge, ascent_end g j m big ge)
-    (omega (arith, steps_append (replicate q step) [], steps_replicate q, count_split m g (omega arith), count_short (m - q) (suc g) (omega arith) ge, ap (λ (d : ℕ). count d (suc (suc g))) (let e : n - p ≡ q = omega arith in e)))
+ascent_last g p j m n big e ge = grind (arith, split_less, snapshots_end, ascent_end, steps_append, steps_replicate, count_split, count_short)
 
 ascent_over : (g p j m n : ℕ) → 1 < m - split m (suc (suc g)) → gaps (suc g) n ((p + split m (suc (suc g))) ∷ snapshots (suc g) (p + split m (suc (suc g))) (m - split m (suc (suc g)))) + steps (ascent (suc g) (suc j) (m - split m (suc (suc g)))) ≡ count (m - split m (suc (suc g))) (suc g) → gaps (suc (suc g)) n (p ∷ snapshots (suc (suc g)) p m) + steps (ascent (suc (suc g)) j m) ≡ count m (suc (suc g))
-ascent_over g p j m n lt ih =
-    let q : ℕ = split m (suc (suc g)) in
-    let above : List ℕ = (p + q) ∷ snapshots (suc g) (p + q) (m - q) in
-    rw (snapshots_more g p m lt, ascent_more g j m lt)
-    (omega (arith, ih, steps_append (replicate q step) (put j ∷ ascent (suc g) (suc j) (m - q)), steps_replicate q, count_split m g (omega arith), ap (λ (d : ℕ). count d (suc (suc g))) (let e : p + q - p ≡ q = omega arith in e), ap (λ (t : ℕ). gaps t n above) (let e : suc (suc g) - 1 ≡ suc g = omega arith in e)))
+ascent_over g p j m n lt ih = grind (arith, snapshots_more, ascent_more, steps_append, steps_replicate, count_split)
 
 ascent_price : (g p j m n : ℕ) → 1 ≤ m → suc n ≡ p + m → gaps (suc g) n (p ∷ snapshots (suc g) p m) + steps (ascent (suc g) j m) ≡ count m (suc g)
 unfolding snapshots ascent
@@ -227,7 +192,7 @@ back_price s n p ps r h i =
 
 -- a walk of k backs
 pub walk_price : (k s n p : ℕ) (ps : List ℕ) → Rising n p ps → length ps < s → p + k ≤ n → owed s (n - k) (walked s k n (p ∷ ps)) + steps (walk s k n (p ∷ ps)) ≡ owed s n (p ∷ ps)
-walk_price zero s n p ps r h b = omega (arith, ap (λ (x : ℕ). owed s x (p ∷ ps)) (let e : n - 0 ≡ n = omega arith in e))
+walk_price zero s n p ps r h b = grind arith
 walk_price (suc k) s zero p ps r h b = omega arith
 walk_price (suc k) s (suc n) p ps r h b =
     let after = back_left s n p ps r h (omega arith) in
@@ -240,7 +205,7 @@ walk_price (suc k) s (suc n) p ps r h b =
 
 -- what a walk leaves
 pub walk_left : (k s n p : ℕ) (ps : List ℕ) → Rising n p ps → length ps < s → p + k ≤ n → Left s (n - k) p (walked s k n (p ∷ ps))
-walk_left zero s n p ps r h b = let e : n - 0 ≡ n = omega arith in record { rest = ps; is = refl; rising = rw e r; room = h }
+walk_left zero s n p ps r h b = grind arith
 walk_left (suc k) s zero p ps r h b = absurd (omega arith)
 walk_left (suc k) s (suc n) p ps r h b =
     let after = back_left s n p ps r h (omega arith) in
@@ -250,8 +215,7 @@ walk_left (suc k) s (suc n) p ps r h b =
 
 -- at the first held scan nothing is owed any more
 owed_first : (s p : ℕ) (held : List ℕ) → Left s p p held → owed s p held ≡ 0
-owed_first s p held left =
-    ap (owed s p) left.is ∙ ap (gaps s p) (kept_at p p left.rest left.rising (omega arith)).1
+owed_first s p held left = grind (arith, kept_at)
 
 -- a walk down to the first held scan, whatever is held: what was owed
 pub walk_owed : (k s p : ℕ) (ps : List ℕ) → Rising (p + k) p ps → length ps < s → steps (walk s k (p + k) (p ∷ ps)) ≡ owed s (p + k) (p ∷ ps)
@@ -271,31 +235,7 @@ walk_count l s h =
 pub walk_closed : (l s : ℕ) → 1 ≤ s → steps (walk s l l (0 ∷ [])) + choose (s + rounds l s) (s + 1) ≡ rounds l s * l
 walk_closed l s h = omega (arith, walk_count l s h, count_closed l s)
 
--- ---- the cases of the way up for any number of slots, as a loop meets them
-
+-- with one slot nothing is put
 pub snapshots_one : (p m : ℕ) → snapshots 1 p m ≡ []
 unfolding snapshots
 snapshots_one p m = refl
-
-less_one : (g : ℕ) → suc g ≡ suc (suc g) - 1
-less_one g = omega arith
-
-pub snapshots_step : (g p m : ℕ) → 2 ≤ g → 1 < m - split m g → snapshots g p m ≡ (p + split m g) ∷ snapshots (g - 1) (p + split m g) (m - split m g)
-snapshots_step zero p m h k = absurd (omega arith)
-snapshots_step (suc zero) p m h k = absurd (omega arith)
-snapshots_step (suc (suc g)) p m h k = rw (← less_one g) (snapshots_more g p m k)
-
-pub snapshots_stop : (g p m : ℕ) → 2 ≤ g → m - split m g ≤ 1 → snapshots g p m ≡ []
-snapshots_stop zero p m h k = absurd (omega arith)
-snapshots_stop (suc zero) p m h k = absurd (omega arith)
-snapshots_stop (suc (suc g)) p m h k = snapshots_end g p m k
-
-pub ascent_step : (g j m : ℕ) → 2 ≤ g → 1 < m - split m g → ascent g j m ≡ replicate (split m g) step ++ put j ∷ ascent (g - 1) (suc j) (m - split m g)
-ascent_step zero j m h k = absurd (omega arith)
-ascent_step (suc zero) j m h k = absurd (omega arith)
-ascent_step (suc (suc g)) j m h k = rw (← less_one g) (ascent_more g j m k)
-
-pub ascent_stop : (g j m : ℕ) → 2 ≤ g → 1 < m → m - split m g ≤ 1 → ascent g j m ≡ replicate (split m g) step
-ascent_stop zero j m h b k = absurd (omega arith)
-ascent_stop (suc zero) j m h b k = absurd (omega arith)
-ascent_stop (suc (suc g)) j m h b k = ascent_end g j m b k ∙ append-nil _

@@ -6,11 +6,12 @@ ghost use Rattle.std.specs.Prelude.{◌≡◌};
 
 use schedule::count;
 
-// The counts for (l, s) = (0, 3), (1, 1), (2, 1), (5, 2), (6, 2), (7, 2), (10, 3), (11, 3), (4, 4), (20, 1).
+/// The counts for (l, s) = (0, 3), (1, 1), (2, 1), (5, 2), (6, 2), (7, 2), (10, 3), (11, 3), (4, 4), (20, 1).
 pub fn worked_counts() -> [Option<u64>; 10]
     ensures value { result ≡ ten_counts }
     ensures examples { Examples }
 {
+    // ten calls written out: a map is no plainer, since the proof takes the ten counts from the contract of the call
     [
         count(0, 3),
         count(1, 1),

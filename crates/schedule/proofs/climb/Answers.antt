@@ -1,4 +1,4 @@
-use Rattle.std.proofs.Common.{◌+◌, ◌<◌, ◌≤◌, refl, mul-le-mul, arith, rules}
+use Rattle.std.proofs.Common.{◌+◌, ◌<◌, ◌≤◌, mul-le-mul, arith, rules}
 use Rattle.checkpoints.proofs.Climb.{climb_start, climb_next, climb_end, climb_small}
 use Rattle.schedule.proofs.climb.Goals as goal
 
@@ -7,7 +7,7 @@ loop-top-init c = climb_start c.args.l c.args.s
 
 small : (c : goal.In-loop-top) → c.loop-top.r < 2000
 small c =
-    climb_small c.args.s c.loop-top.r c.loop-top.top c.requires.0 c.loop-top.invariant.here (omega (arith, c.loop-top-test.true, c.requires.1.1))
+    climb_small c.args.s c.loop-top.r c.loop-top.top c.requires.some c.loop-top.invariant.here (omega (arith, c.loop-top-test.true, c.requires.scans))
 
 pub overflow_add-r : goal.overflow_add-r
 overflow_add-r c = let h = small c in search rules
@@ -18,8 +18,8 @@ overflow_add-top c = let h = small c in search rules
 pub overflow_mul-top : goal.overflow_mul-top
 overflow_mul-top c =
     let h = small c in
-    let a : c.loop-top.top ≤ 999999 = omega (arith, c.loop-top-test.true, c.requires.1.1) in
-    let b : c.args.s + (c.loop-top.r + 1) ≤ 2064 = omega (arith, c.requires.1.0) in
+    let a : c.loop-top.top ≤ 999999 = omega (arith, c.loop-top-test.true, c.requires.scans) in
+    let b : c.args.s + (c.loop-top.r + 1) ≤ 2064 = omega (arith, c.requires.slots) in
     let k = mul-le-mul a b in
     search rules
 
@@ -32,5 +32,6 @@ loop-top-preserved c =
 
 pub returns : goal.returns
 returns c =
-    let e = climb_end c.args.l c.args.s c.loop-top.r c.loop-top.top c.loop-top.below c.loop-top.under (omega (arith, c.requires.0)) c.loop-top-test.false c.loop-top.invariant in
-    rw e record { rounds = refl; top = c.loop-top.invariant.here; below = c.loop-top.invariant.last; under = c.loop-top.invariant.past }
+    let e = climb_end c.args.l c.args.s c.loop-top.r c.loop-top.top c.loop-top.below c.loop-top.under (omega (arith, c.requires.some)) c.loop-top-test.false c.loop-top.invariant in
+    let i = c.loop-top.invariant in
+    rw e cc (i.here, i.last, i.past)
