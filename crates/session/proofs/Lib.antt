@@ -1,4 +1,4 @@
 pub mod Buffers
-pub mod Turns
-pub mod Heads
+pub mod Promised
 pub mod Loops
+pub mod Leading

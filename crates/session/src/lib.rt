@@ -5,29 +5,28 @@ mod calls;
 mod runs;
 mod table;
 
-ghost use Rattle.session.specs.Sessions.{closed, frame, frame_of, here};
-ghost use Rattle.store.specs.Slots.{got};
+ghost use Rattle.session.specs.Sessions.{Goes, IsClosed, IsOver, Tells, here};
 ghost use Rattle.viewer.specs.Model.{climbed, dropped, emptied, finding, forward, opened, released, restored, returned, shed, snapped, sought, stepped, stride};
-ghost use Rattle.viewer.specs.Answers.{holds};
-ghost use Rattle.std.specs.Prelude.{◌≡◌, ◌-◌, ◌≤◌, length, take, replicate, slice_index};
-ghost use Rattle.machine.specs.Counters.{under};
+ghost use Rattle.std.specs.Option.{ok_or};
+ghost use Rattle.terms.specs.declared.Refusal.TheVariants.{NotOpen};
+ghost use Rattle.std.specs.Prelude.{◌≡◌, ◌-◌, ◌≤◌};
 
-use machine::{Counter, Machine};
+use machine::{Counter, Machine, snapshot};
 pub use runs::{Outcome, run};
 use source::Source;
 use store::Store;
 use table::Table;
-use terms::{Place, Scan};
-use viewer::{Held, Watch};
+use terms::{Place, Refusal, Scan};
+use viewer::{Condition, Held};
 
-// A machine under a counter, a source, a store, where it stands, and what it holds.
+/// A machine under a counter, a source, a store, where it stands, and what it holds.
 #[derive(Drop)]
 pub struct Session<M, S, T> {
     machine: Counter<M>,
     source: S,
     store: T,
-    // the slots of the accepted open, 0 while the session is closed
-    slots: u32,
+    // the slots of the accepted open, none while the session is closed
+    slots: Option<u32>,
     scan: Scan,
     // the place of that scan, none at the total
     place: Option<Place>,
@@ -35,26 +34,32 @@ pub struct Session<M, S, T> {
 }
 
 impl<M: Machine, S: Source, T: Store> Session<M, S, T> {
-    // A closed session over a machine, which it puts under a counter, a source and a store.
+    /// A closed session over a machine, which it puts under a counter, a source and a store.
     pub fn new(machine: M, source: S, store: T) -> Self
-        ensures frame { frame M.Machine S.Source T.Store result ≡ frame_of M.Machine S.Source T.Store machine source store }
-        ensures here { here M.Machine S.Source T.Store result ≡ closed M.Machine S.Source T.Store machine source store }
+        ensures frame { IsOver M.Machine S.Source T.Store machine source store result }
+        ensures here { IsClosed M.Machine S.Source T.Store machine source store result }
     {
         Session {
             machine: Counter::new(machine),
             source,
             store,
-            slots: 0,
+            slots: None,
             scan: Scan(0),
             place: None,
             table: Table::new(),
         }
     }
 
-    // One step, where there is a scan to read.
+    // The slots of the accepted open, or the refusal of a session that is not open.
+    fn require_open(&self) -> Result<u32, Refusal>
+        ensures { result ≡ ok_or self.now.slots NotOpen }
+    {
+        self.slots.ok_or(Refusal::NotOpen)
+    }
+
+    // One step, where there is a scan to read; a step that answers an Option would be no plainer, since the model's is total.
     fn advance(&mut self)
-        ensures frame { frame M.Machine S.Source T.Store self.new ≡ frame M.Machine S.Source T.Store self.old }
-        ensures here { here M.Machine S.Source T.Store self.new ≡ stepped (frame M.Machine S.Source T.Store self.old) (here M.Machine S.Source T.Store self.old) }
+        ensures { Goes M.Machine S.Source T.Store stepped self.old self.new }
     {
         let Some(place) = self.place else {
             return;
@@ -69,8 +74,7 @@ impl<M: Machine, S: Source, T: Store> Session<M, S, T> {
 
     // So many steps.
     fn forward(&mut self, steps: u32)
-        ensures frame { frame M.Machine S.Source T.Store self.new ≡ frame M.Machine S.Source T.Store self.old }
-        ensures here { here M.Machine S.Source T.Store self.new ≡ forward (frame M.Machine S.Source T.Store self.old) steps (here M.Machine S.Source T.Store self.old) }
+        ensures { Goes M.Machine S.Source T.Store (λ f. forward f steps) self.old self.new }
     {
         for _ in 0..steps {
             self.advance();
@@ -79,11 +83,10 @@ impl<M: Machine, S: Source, T: Store> Session<M, S, T> {
 
     // A snapshot of the present state goes into the slot after the held ones.
     fn snap(&mut self)
-        ensures frame { frame M.Machine S.Source T.Store self.new ≡ frame M.Machine S.Source T.Store self.old }
-        ensures here { here M.Machine S.Source T.Store self.new ≡ snapped (frame M.Machine S.Source T.Store self.old) (here M.Machine S.Source T.Store self.old) }
+        ensures { Goes M.Machine S.Source T.Store snapped self.old self.new }
     {
-        let words = picture(&self.machine);
-        let _ = self.store.put(self.table.len(), &words[0..M::width()]);
+        let words = snapshot(&self.machine);
+        let _ = self.store.put(self.table.len(), &words[0..M::W]);
         self.table.push(Held {
             scan: self.scan,
             place: self.place,
@@ -92,8 +95,7 @@ impl<M: Machine, S: Source, T: Store> Session<M, S, T> {
 
     // The highest held scan is freed.
     fn drop_last(&mut self)
-        ensures frame { frame M.Machine S.Source T.Store self.new ≡ frame M.Machine S.Source T.Store self.old }
-        ensures here { here M.Machine S.Source T.Store self.new ≡ dropped (here M.Machine S.Source T.Store self.old) }
+        ensures { Goes M.Machine S.Source T.Store (λ _. dropped) self.old self.new }
     {
         let held = self.table.len();
         if held > 0 {
@@ -102,96 +104,80 @@ impl<M: Machine, S: Source, T: Store> Session<M, S, T> {
         self.table.pop();
     }
 
-    // The highest held scan is freed where it is not below n.
-    fn release(&mut self, n: u32)
-        ensures frame { frame M.Machine S.Source T.Store self.new ≡ frame M.Machine S.Source T.Store self.old }
-        ensures here { here M.Machine S.Source T.Store self.new ≡ released n (here M.Machine S.Source T.Store self.old) }
+    // The highest held scan is freed where it is not below this one.
+    fn release(&mut self, scan: Scan)
+        ensures { Goes M.Machine S.Source T.Store (λ _. released scan.0) self.old self.new }
     {
-        if let Some(last) = self.table.last() {
-            if last.scan.0 >= n {
-                self.drop_last();
-            }
+        if self.table.last().is_some_and(|last| last.scan >= scan) {
+            self.drop_last();
         }
     }
 
-    // The machine takes the state of the highest held scan.
+    // The machine takes the state of the highest held scan, if there is one: total for the same reason.
     fn restore(&mut self)
-        ensures frame { frame M.Machine S.Source T.Store self.new ≡ frame M.Machine S.Source T.Store self.old }
-        ensures here { here M.Machine S.Source T.Store self.new ≡ restored (frame M.Machine S.Source T.Store self.old) (here M.Machine S.Source T.Store self.old) }
+        ensures { Goes M.Machine S.Source T.Store restored self.old self.new }
     {
         let Some(last) = self.table.last() else {
             return;
         };
-        let words = fetched(&mut self.store, self.table.len() - 1, M::width());
-        let _ = self.machine.load(&words[0..M::width()]);
+        let mut words = [0; 32];
+        let _ = self.store.get(self.table.len() - 1, &mut words[0..M::W]);
+        let _ = self.machine.load(&words[0..M::W]);
         self.scan = last.scan;
         self.place = last.place;
     }
 
-    // Up m − 1 scans with g slots free, and a snapshot where the rule puts one.
+    // Up gap − 1 scans with so many slots free, and a snapshot where the rule puts one.
     fn climb(&mut self, slots: u32, gap: u32)
-        ensures frame { frame M.Machine S.Source T.Store self.new ≡ frame M.Machine S.Source T.Store self.old }
-        ensures here { here M.Machine S.Source T.Store self.new ≡ climbed (frame M.Machine S.Source T.Store self.old) slots gap (here M.Machine S.Source T.Store self.old) }
+        ensures { Goes M.Machine S.Source T.Store (λ f. climbed f slots gap) self.old self.new }
     {
-        let mut g = slots;
         let mut m = gap;
-        while m > 1 && g > 0 {
-            if g == 1 {
-                self.forward(m - 1);
+        for g in (2..=slots).rev() {
+            if m <= 1 {
                 return;
             }
             let q = stride(m, g);
             self.forward(q);
             m = m.saturating_sub(q);
-            g -= 1;
             if m > 1 {
                 self.snap();
             }
+        }
+        if slots > 0 {
+            self.forward(m.saturating_sub(1));
         }
     }
 
     // One back: free, restore, go up to the scan before this one.
     fn retreat(&mut self)
-        ensures frame { frame M.Machine S.Source T.Store self.new ≡ frame M.Machine S.Source T.Store self.old }
-        ensures here { here M.Machine S.Source T.Store self.new ≡ returned (frame M.Machine S.Source T.Store self.old) (here M.Machine S.Source T.Store self.old) }
+        ensures { Goes M.Machine S.Source T.Store returned self.old self.new }
     {
-        let Scan(n) = self.scan;
-        self.release(n);
+        let scan = self.scan;
+        self.release(scan);
         self.restore();
         let below = self.table.len().saturating_sub(1);
-        let free = self.slots.saturating_sub(below as u32);
-        self.climb(free, n.saturating_sub(self.scan.0));
+        let free = self.slots.unwrap_or(0).saturating_sub(below as u32);
+        self.climb(free, scan.0.saturating_sub(self.scan.0));
     }
 
-    // A word of the state, 0 where there is no such word.
-    fn word(&self, at: u32) -> u32
-        ensures { result ≡ slice_index (here M.Machine S.Source T.Store self.now).state at }
+    // Whether the present state meets a condition.
+    fn matches<C: Condition>(&self, condition: &C) -> bool
+        ensures { result ≡ C.holds condition.now (here M.Machine S.Source T.Store self.now).state }
     {
-        if at as usize >= M::width() {
-            return 0;
-        }
-        picture(&self.machine)[at as usize]
+        condition.holds(&snapshot(&self.machine)[0..M::W])
     }
 
-    // Whether a watch holds in the present state.
-    fn matches(&self, watch: Watch) -> bool
-        ensures { result ≡ holds watch (here M.Machine S.Source T.Store self.now).state }
-    {
-        match watch {
-            Watch::Equal { word, mask, value } => self.word(word) & mask == value & mask,
-            Watch::Ones { word, least } => self.word(word).count_ones() >= least,
-        }
-    }
-
-    // Backs until the watch holds or the lowest held scan is reached.
-    fn find(&mut self, watch: Watch, backs: u32) -> Option<Scan>
-        ensures value { result ≡ finding (frame M.Machine S.Source T.Store self.old) watch backs (here M.Machine S.Source T.Store self.old) }
-        ensures frame { frame M.Machine S.Source T.Store self.new ≡ frame M.Machine S.Source T.Store self.old }
-        ensures here { here M.Machine S.Source T.Store self.new ≡ sought (frame M.Machine S.Source T.Store self.old) watch backs (here M.Machine S.Source T.Store self.old) }
+    // Backs until a state meets the condition, at most so many. A loop: each back changes the session, so there is no list
+    // that could be searched.
+    fn find<C: Condition>(&mut self, condition: &C, backs: u32) -> Option<Scan>
+        ensures value { Tells M.Machine S.Source T.Store
+            (λ f. finding f (C.holds condition.now) backs) self.old result }
+        ensures goes { Goes M.Machine S.Source T.Store
+            (λ f. sought f (C.holds condition.now) backs) self.old self.new }
     {
         for _ in 0..backs {
             self.retreat();
-            if self.matches(watch) {
+            if self.matches(condition) {
                 return Some(self.scan);
             }
         }
@@ -200,8 +186,7 @@ impl<M: Machine, S: Source, T: Store> Session<M, S, T> {
 
     // The highest held scans are freed, so many of them.
     fn shed(&mut self, many: usize)
-        ensures frame { frame M.Machine S.Source T.Store self.new ≡ frame M.Machine S.Source T.Store self.old }
-        ensures here { here M.Machine S.Source T.Store self.new ≡ shed many (here M.Machine S.Source T.Store self.old) }
+        ensures { Goes M.Machine S.Source T.Store (λ _. shed many) self.old self.new }
     {
         for _ in 0..many {
             self.drop_last();
@@ -210,14 +195,13 @@ impl<M: Machine, S: Source, T: Store> Session<M, S, T> {
 
     // The session begins at scan 0 with so many slots.
     fn begin(&mut self, slots: u32)
-        ensures frame { frame M.Machine S.Source T.Store self.new ≡ frame M.Machine S.Source T.Store self.old }
-        ensures here { here M.Machine S.Source T.Store self.new ≡ opened (frame M.Machine S.Source T.Store self.old) slots (here M.Machine S.Source T.Store self.old) }
+        ensures { Goes M.Machine S.Source T.Store (λ f. opened f slots) self.old self.new }
     {
         empty_slots(&mut self.store, slots);
-        let words = picture(&self.machine);
-        let _ = self.store.put(0, &words[0..M::width()]);
+        let words = snapshot(&self.machine);
+        let _ = self.store.put(0, &words[0..M::W]);
         self.machine.reset();
-        self.slots = slots;
+        self.slots = Some(slots);
         self.scan = Scan(0);
         self.place = self.source.first();
         self.table = Table::new();
@@ -228,41 +212,14 @@ impl<M: Machine, S: Source, T: Store> Session<M, S, T> {
     }
 }
 
-// The state of a machine, in the first of the words.
-fn picture<M: Machine>(machine: &Counter<M>) -> [u32; 32]
-    ensures length { length result ≡ 32 }
-    ensures front { take M.Machine.wide result ≡ M.Machine.state (under machine.now) }
-{
-    let mut words = [0; 32];
-    let _ = machine.save(&mut words[0..M::width()]);
-    words
-}
-
-// The snapshot in a slot, in the first of the words, which are 0 where there is none.
-fn fetched<T: Store>(store: &mut T, slot: usize, width: usize) -> [u32; 32]
-    ensures length { length result ≡ 32 }
-    ensures front { width ≤ 32 → take width result ≡ got (T.Store.wide store.old) (T.Store.slots store.old) slot (replicate width 0) }
-    ensures same { T.Store.slots store.new ≡ T.Store.slots store.old }
-    ensures width { T.Store.wide store.new ≡ T.Store.wide store.old }
-{
-    let mut words = [0; 32];
-    if width <= 32 {
-        let _ = store.get(slot, &mut words[0..width]);
-    }
-    words
-}
-
 // The steps to the next snapshot of a gap of m scans with g slots.
 fn stride(m: u32, g: u32) -> u32
     ensures { 2 ≤ m → 2 ≤ g → result ≡ stride m g }
 {
-    match schedule::split(m, g) {
-        Some(q) => q,
-        None => 1,
-    }
+    schedule::split(m, g).unwrap_or(1)
 }
 
-// Slots 1 to s − 1 are emptied.
+// Slots 1 to s − 1 are emptied; they are numbers of the store, and no list that could be gone through.
 fn empty_slots<T: Store>(store: &mut T, s: u32)
     ensures after { T.Store.slots store.new ≡ emptied (s - 1) 1 (T.Store.slots store.old) }
     ensures width { T.Store.wide store.new ≡ T.Store.wide store.old }

@@ -1,23 +1,23 @@
 // A session made and run over a list of calls, with the whole promise.
-ghost use Rattle.std.specs.Prelude.{◌≡◌, MatchResult};
-ghost use Rattle.session.specs.Sessions.{closed, frame, frame_of, given, here};
-ghost use Rattle.viewer.specs.Promises.{Promise};
+ghost use Rattle.std.specs.Prelude.{◌≡◌, IfOk, MatchResult, OnErr, OnOk};
+ghost use Rattle.session.specs.Sessions.{IsClosed, IsOver, Keeps, Runs, Says};
 
 use crate::Session;
 use machine::Machine;
 use source::Source;
 use std::alloc::{AllocError, Global};
 use store::Store;
+use terms::Refusal;
 use viewer::{Answer, Call};
 
-// A session after a list of calls, with the answers, or with want of memory, where nothing was run.
+/// A session after a list of calls, with the answers, or with want of memory, where nothing was run.
 #[derive(Drop)]
 pub struct Outcome<M, S, T> {
     pub session: Session<M, S, T>,
-    pub answers: Result<Vec<Answer>, AllocError>,
+    pub answers: Result<Vec<Result<Answer, Refusal>>, AllocError>,
 }
 
-// Makes a session from a machine, a source and a store, and runs the calls, one by one.
+/// Makes a session from a machine, a source and a store, and runs the calls, one by one.
 pub fn run<M: Machine, S: Source, T: Store>(
     machine: M,
     source: S,
@@ -26,24 +26,28 @@ pub fn run<M: Machine, S: Source, T: Store>(
     heap: Global,
 ) -> Outcome<M, S, T>
     ensures promise { MatchResult result.answers
-        (λ v. Promise (given M.Machine S.Source T.Store machine source store) (T.Store.slots store) calls.now v.items
-        (here M.Machine S.Source T.Store result.session).state (here M.Machine S.Source T.Store result.session).held
-        (here M.Machine S.Source T.Store result.session).count (here M.Machine S.Source T.Store result.session).slots)
-        (λ _. here M.Machine S.Source T.Store result.session ≡ closed M.Machine S.Source T.Store machine source store) }
-    ensures frame { frame M.Machine S.Source T.Store result.session ≡ frame_of M.Machine S.Source T.Store machine source store }
+        (λ v. Keeps M.Machine S.Source T.Store machine source store calls.now v.items result.session)
+        (λ _. IsClosed M.Machine S.Source T.Store machine source store result.session) }
+    ensures frame { IsOver M.Machine S.Source T.Store machine source store result.session }
 {
     let mut session = Session::new(machine, source, store);
-    let Ok(mut answers) = Vec::with_capacity(heap, calls.len()) else {
-        return Outcome {
-            session,
-            answers: Err(AllocError),
-        };
-    };
+    let answers = replies(&mut session, calls, heap);
+    Outcome { session, answers }
+}
+
+// The answers to the calls, or want of memory before the first of them.
+fn replies<M: Machine, S: Source, T: Store>(
+    session: &mut Session<M, S, T>,
+    calls: &[Call],
+    heap: Global,
+) -> Result<Vec<Result<Answer, Refusal>>, AllocError>
+    ensures answers { IfOk result (λ v. Says M.Machine S.Source T.Store calls.now session.old v.items) }
+    ensures goes { OnOk result (Runs M.Machine S.Source T.Store calls.now session.old session.new) }
+    ensures same { OnErr result (session.new ≡ session.old) }
+{
+    let mut answers = Vec::with_capacity(heap, calls.len())?;
     for call in calls {
         answers.push_reserved(session.call(*call));
     }
-    Outcome {
-        session,
-        answers: Ok(answers),
-    }
+    Ok(answers)
 }

@@ -1,13 +1,13 @@
 -- When a session agrees with the plain viewer and the rules, and that each call keeps it so.
-use Rattle.std.proofs.Common.{◌≡◌, ℕ, ◌+◌, ◌-◌, ◌<◌, ◌≤◌, min, Bool, true, false, cond, ◌||◌, eqb, ltb, leb, List, [], ◌∷◌, length, get_or, Some, None, Option, refl, ap, ◌∙◌, inl, inr, append-nil, arith}
+use Rattle.std.proofs.Common.{◌≡◌, ℕ, ◌+◌, ◌-◌, ◌<◌, ◌≤◌, min, Bool, true, false, cond, ◌||◌, eqb, ltb, leb, List, [], ◌∷◌, length, get_or, Some, None, Option, Ok, refl, ap, ◌∙◌, inl, inr, append-nil, arith}
 use lib.ListN.{length-map}
-use Rattle.std.proofs.lemmas.Bool.{cases_lt, cond-true, cond-false, ne_eqb, leb-false, ltb-false, eqb-true, eqb-false, or_parts}
+use Rattle.std.proofs.lemmas.Bool.{cases_lt, cond-true, cond-false, leb-false, ltb-false, eqb-true, eqb-false, or_parts}
 use Rattle.terms.specs.declared.Refusal.{Refusal}
 use Rattle.terms.specs.declared.Refusal.TheVariants.{NotOpen, BadSlots, WidthsDiffer, AtStart, AlreadyOpen, AtEnd}
 use Rattle.machine.specs.Machines.{cap}
 use Rattle.store.specs.Slots.{Slot}
 use Rattle.checkpoints.specs.Backs.{steps, back, back_acts, walk, walked}
-use Rattle.viewer.specs.Answers.{Value, value_of}
+use Rattle.viewer.specs.Answers.{Value, holds, value_of}
 use Rattle.viewer.specs.Viewing.{Given, View, latest, lowest, refuses, when_open, when_closed, landing, tells, views, replies}
 use Rattle.viewer.specs.Rules.{Book, backs, booked, books}
 use Rattle.viewer.specs.Model.{Frame, Now, floor, returned, sought, shed, stops, makes, answers, called, answered}
@@ -29,7 +29,7 @@ pub record Shut (f : Frame) (start : List ℕ) (base : List Slot) (v : View) (b 
   pub none : b.count ≡ 0
   pub since : b.since ≡ None
   pub state : h.state ≡ start
-  pub room : h.room ≡ 0
+  pub room : h.room ≡ None
   pub held : h.held ≡ []
   pub store : h.slots ≡ base
   pub count : h.count ≡ 0
@@ -48,7 +48,7 @@ pub data Agree (f : Frame) (start : List ℕ) (base : List Slot) (v : View) (b :
 
 -- an accepted call
 pub record Accepted (f : Frame) (start : List ℕ) (base : List Slot) (v : View) (b : Book) (h : Now) (call : Call) : Type 0 where
-  pub telling : value_of (answers f h call) ≡ tells (given_of f start (length base)) v.at b.count call
+  pub telling : value_of (Ok (answers f h call)) ≡ tells (given_of f start (length base)) v.at b.count call
   pub agrees : Agree f start base (record { is_open = true; at = landing (given_of f start (length base)) v.at call })
       (booked v.at (landing (given_of f start (length base)) v.at call) call b) (makes f h call)
 
@@ -77,21 +77,18 @@ first_yes true why o e = (refl, e)
 -- ---- an open session
 
 -- what it refuses
-live_room : (f : Frame) (start : List ℕ) (base : List Slot) (v : View) (b : Book) (h : Now) → Live f start base v b h → eqb h.room 0 ≡ false
-live_room f start base v b h a = let st = a.stands in ne_eqb h.room 0 (λ e. omega (arith, st.room, st.short))
-
 live_floor : (f : Frame) (start : List ℕ) (base : List Slot) (v : View) (b : Book) (h : Now) → Live f start base v b h → floor h.held ≡ 0
 live_floor f start base v b h a = ap floor a.stands.held
 
 live_stops : (f : Frame) (start : List ℕ) (base : List Slot) (v : View) (b : Book) (h : Now) (call : Call) → Live f start base v b h →
     stops f h call ≡ when_open (given_of f start (length base)) v.at call
-live_stops f start base v b h (Open s) a = rw (live_room f start base v b h a) refl
-live_stops f start base v b h Ahead a = rw (live_room f start base v b h a, a.stands.scan) refl
-live_stops f start base v b h Back a = rw (live_room f start base v b h a, a.stands.scan, live_floor f start base v b h a) refl
-live_stops f start base v b h (Seek watch) a = rw (live_room f start base v b h a, a.stands.scan, live_floor f start base v b h a) refl
-live_stops f start base v b h (Look w) a = rw (live_room f start base v b h a) refl
-live_stops f start base v b h Count a = rw (live_room f start base v b h a) refl
-live_stops f start base v b h Turn a = rw (live_room f start base v b h a) refl
+live_stops f start base v b h (Open s) a = rw (a.stands.room) refl
+live_stops f start base v b h Ahead a = rw (a.stands.room, a.stands.scan) refl
+live_stops f start base v b h Back a = rw (a.stands.room, a.stands.scan, live_floor f start base v b h a) refl
+live_stops f start base v b h (Seek watch) a = rw (a.stands.room, a.stands.scan, live_floor f start base v b h a) refl
+live_stops f start base v b h (Look w) a = rw (a.stands.room) refl
+live_stops f start base v b h Count a = rw (a.stands.room) refl
+live_stops f start base v b h Turn a = rw (a.stands.room) refl
 
 -- ahead
 live_ahead : StepsOn → (f : Frame) (start : List ℕ) (base : List Slot) (v : View) (b : Book) (h : Now) → Fair f start → Live f start base v b h →
@@ -134,7 +131,7 @@ ending_is : (o : Option ℕ) → elim o [ None ↦ lowest | Some k ↦ k ] ≡ e
 ending_is None = refl
 ending_is (Some k) = refl
 
-found_is : (o : Option ℕ) → value_of (Found (scanned o)) ≡ elim o [ None ↦ Value.none | Some k ↦ Value.scan k ]
+found_is : (o : Option ℕ) → value_of (Ok (Found (scanned o))) ≡ elim o [ None ↦ Value.none | Some k ↦ Value.scan k ]
 found_is None = refl
 found_is (Some k) = refl
 
@@ -143,8 +140,8 @@ live_seek : GoesBack → (f : Frame) (start : List ℕ) (base : List Slot) (v : 
 live_seek goes f start base v b h watch fair a =
     let n : ℕ = v.at in
     let s : ℕ = b.slots in
-    let o : Option ℕ = latest (given_of f start (length base)) watch n in
-    let so : Sought f start base watch s n b.count a.rest h o = seeking goes f start base fair watch n s b.count a.rest h a.stands in
+    let o : Option ℕ = latest (given_of f start (length base)) (holds watch) n in
+    let so : Sought f start base (holds watch) s n b.count a.rest h o = seeking goes f start base fair (holds watch) n s b.count a.rest h a.stands in
     let k : h.scan - floor h.held ≡ n = omega (arith, a.stands.scan, live_floor f start base v b h a) in
     let is : walked s (n - ending o) n b.held ≡ 0 ∷ so.rest = ap (walked s (n - ending o) n) a.holds ∙ so.is in
     let acts : walk s (n - ending o) n b.held ≡ walk s (n - ending o) n (0 ∷ a.rest) = ap (walk s (n - ending o) n) a.holds in
@@ -152,7 +149,7 @@ live_seek goes f start base v b h watch fair a =
     let low = so.low in
     record {
       telling = rw (k, so.found) (found_is o);
-      agrees = rw (k, to) (live (live_backs f start base v b h (sought f watch n h) (n - ending o) (ending o) so.rest a (omega arith) (omega arith) is (rw acts so.stands)));
+      agrees = rw (k, to) (live (live_backs f start base v b h (sought f (holds watch) n h) (n - ending o) (ending o) so.rest a (omega arith) (omega arith) is (rw acts so.stands)));
     }
 
 -- turn

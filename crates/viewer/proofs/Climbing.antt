@@ -9,6 +9,7 @@ use Rattle.checkpoints.specs.Backs.{steps, top, kept, snapshots, ascent, refille
 use Rattle.checkpoints.specs.Backs.Act.{step, put, show}
 use Rattle.checkpoints.proofs.Rounds.{split_some, split_less}
 use Rattle.checkpoints.proofs.Rule.{rising_top, kept_in, steps_append, steps_replicate, snapshots_none, snapshots_end, snapshots_more, snapshots_one, ascent_one, ascent_none, ascent_end, ascent_more}
+use Rattle.std.specs.Option.{unwrap_or}
 use Rattle.viewer.specs.Model.{Frame, Now, forward, snapped, stride, climbed, climb_from, returned, released, restored}
 use Rattle.viewer.proofs.Sound.{Fair, Standing, GoesBack}
 use Rattle.viewer.proofs.Forward.{at, goes_on}
@@ -150,14 +151,14 @@ climbs_from f start base s n c p ks h fair st low within =
     let l : length h.held ≡ suc (length ks) = held_length f start base s (top p ks) c p ks h st in
     let short : length ks < s = st.short in
     let slots : suc (s - length ks - 1) ≡ s - length ks = omega arith in
-    let room : s - length ks ≡ h.room - (length h.held - 1) = omega (arith, st.room) in
+    let room : s - length ks ≡ unwrap_or h.room 0 - (length h.held - 1) = rw st.room (omega arith) in
     let gap : n - top p ks ≡ n - h.scan = ap (λ (i : ℕ). n - i) (sym st.scan) in
     let up : Climbs f start base s p (s - length ks) = subst (λ (g : ℕ). Climbs f start base s p g) slots (climbs f start base s p fair (s - length ks - 1)) in
     let m : ℕ = n - top p ks in
     alike f start base s (top p ks + (n - top p ks - 1)) (n - 1) (min cap (c + steps (ascent (s - length ks) (suc (length ks)) m))) (min cap (c + steps (ascent (s - length ks) (suc (length ks)) m))) p
     (ks ++ snapshots (s - length ks) (top p ks) m) (ks ++ snapshots (s - length ks) (top p ks) m)
     (climbed f (s - length ks) m h) (climb_from f n h) (omega arith) refl refl
-    (ap (λ (g : ℕ). climbed f g m h) room ∙ ap (λ (i : ℕ). climbed f (h.room - (length h.held - 1)) i h) gap)
+    (ap (λ (g : ℕ). climbed f g m h) room ∙ ap (λ (i : ℕ). climbed f (unwrap_or h.room 0 - (length h.held - 1)) i h) gap)
     (up ks (suc (length ks)) (n - top p ks) (top p ks) c h st (omega arith) (omega arith) (omega arith) (omega arith))
 
 pub goes_back : GoesBack

@@ -1,11 +1,10 @@
 -- A session whose highest held scan is put, freed, or taken up again.
-use Rattle.std.proofs.Common.{◌≡◌, ℕ, suc, ◌+◌, ◌-◌, ◌<◌, ◌≤◌, true, cond, eqb, ltb, leb, List, [], ◌∷◌, ◌++◌, map, length, get_or, take, drop, set, replicate, Some, sym, refl, ap, ◌∙◌, subst, inl, inr, arith, take_at}
+use Rattle.std.proofs.Common.{◌≡◌, ℕ, suc, ◌+◌, ◌-◌, ◌<◌, ◌≤◌, true, cond, eqb, ltb, leb, List, [], ◌∷◌, ◌++◌, map, length, get_or, take, drop, set, replicate, sym, ap, ◌∙◌, subst, inl, inr, arith, take_at}
 use lib.ListN.{length-map, length-replicate}
 use Rattle.std.proofs.lemmas.Bool.{ne_eqb, eq-eqb, lt-ltb, le-leb, lt-leb, cond-true, cond-false, cases_lt}
 use Rattle.std.proofs.lemmas.List.{map_push, length_push}
 use Rattle.machine.specs.Machines.{run, loaded}
-use Rattle.source.specs.Scans.{inputs}
-use Rattle.store.specs.Slots.{Slot, got, filled}
+use Rattle.store.specs.Slots.{Slot, got}
 use Rattle.store.specs.Slots.Slot.{empty, held}
 use Rattle.checkpoints.specs.Backs.{top, kept}
 use Rattle.checkpoints.proofs.Rule.{rising_top, rising_append}
@@ -24,12 +23,12 @@ run_lawful f start fair x (i ∷ is) h = run_lawful f start fair (f.next x i) is
 
 pub state_lawful : (f : Frame) (start : List ℕ) (capacity n : ℕ) → Fair f start → f.lawful (state_at (given_of f start capacity) n) ≡ true
 unfolding state_at
-state_lawful f start capacity n fair = run_lawful f start fair start (take n (inputs f.scans)) fair.starts
+state_lawful f start capacity n fair = grind (arith, run_lawful)
 
 -- as many records are held as scans
 pub held_length : (f : Frame) (start : List ℕ) (base : List Slot) (s n c p : ℕ) (ps : List ℕ) (h : Now) →
     Standing f start base s n c p ps h → length h.held ≡ suc (length ps)
-held_length f start base s n c p ps h st = ap length st.held ∙ length-map (p ∷ ps) (record_at f.scans)
+held_length f start base s n c p ps h st = grind (arith, length-map)
 
 -- ---- the highest is freed
 
@@ -124,48 +123,20 @@ slot_top f start base s n c p ps h st =
 -- a slot that holds words is read into a buffer of the store's width
 got_held : (width : ℕ) (slots : List Slot) (i : ℕ) (words buffer : List ℕ) → length buffer ≡ width → get_or slots i empty ≡ held words →
     got width slots i buffer ≡ words
-got_held width slots i words buffer w g =
-    cond-true (eqb (length buffer) width) (filled (get_or slots i empty) buffer) buffer (eq-eqb (length buffer) width w)
-    ∙ ap (λ (slot : Slot). filled slot buffer) g
+got_held width slots i words buffer w g = grind arith
 
 got_top : (f : Frame) (start : List ℕ) (base : List Slot) (s n c p : ℕ) (ps : List ℕ) (h : Now) →
     Standing f start base s n c p ps h →
     got f.width h.slots (length h.held - 1) (replicate f.wide 0) ≡ state_at (given_of f start (length base)) (top p ps)
-got_top f start base s n c p ps h st =
-    got_held f.width h.slots (length h.held - 1) (state_at (given_of f start (length base)) (top p ps)) (replicate f.wide 0)
-    (length-replicate f.wide 0 ∙ st.same) (slot_top f start base s n c p ps h st)
+got_top f start base s n c p ps h st = grind (arith, got_held, given_of, length-replicate, slot_top)
 
 loads_top : (f : Frame) (start : List ℕ) (capacity t : ℕ) (x : List ℕ) → Fair f start →
     loaded f.wide f.lawful (state_at (given_of f start capacity) t) x ≡ state_at (given_of f start capacity) t
-loads_top f start capacity t x fair =
-    let y : List ℕ = state_at (given_of f start capacity) t in
-    let law : f.lawful y ≡ true = state_lawful f start capacity t fair in
-    cond-true (eqb (length y) f.wide) (cond (f.lawful y) y x) x (eq-eqb (length y) f.wide (fair.sized y law))
-    ∙ cond-true (f.lawful y) y x law
+loads_top f start capacity t x fair = grind (arith, given_of, state_lawful, cond-true, eq-eqb)
 
 pub restores : (f : Frame) (start : List ℕ) (base : List Slot) (s n c p : ℕ) (ps : List ℕ) (h : Now) →
     Fair f start → Standing f start base s n c p ps h → Standing f start base s (top p ps) c p ps (restored f h)
-restores f start base s n c p ps h fair st =
-    let t : ℕ = top p ps in
-    let below : top p ps ≤ n = rising_top n p ps st.rises in
-    let e : restored f h ≡ restore_from f h (Some (record_at f.scans t)) = ap (restore_from f h) (ap model.top st.held ∙ top_held f.scans p ps) in
-    subst (λ (k : Now). Standing f start base s t c p ps k) (sym e)
-    (record {
-      most = st.most;
-      fits = st.fits;
-      same = st.same;
-      within = omega (arith, st.within);
-      rises = rising_own n p ps st.rises;
-      short = st.short;
-      state = ap (λ (w : List ℕ). loaded f.wide f.lawful w h.state) (got_top f start base s n c p ps h st) ∙ loads_top f start (length base) t h.state fair;
-      count = st.count;
-      capped = st.capped;
-      slots = st.slots;
-      room = st.room;
-      scan = refl;
-      place = refl;
-      held = st.held;
-    })
+restores f start base s n c p ps h fair st = grind (arith, rising_top, top_held, Standing, rising_own, got_top, loads_top)
 
 -- ---- the highest is freed where it is not below n
 

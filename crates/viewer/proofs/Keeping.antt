@@ -1,9 +1,9 @@
 -- A session keeps its promise after any list of calls.
-use Rattle.std.proofs.Common.{◌≡◌, ℕ, List, [], ◌∷◌, ◌++◌, map, length, drop, sym, refl, ◌∙◌, arith}
+use Rattle.std.proofs.Common.{◌≡◌, ℕ, List, [], ◌∷◌, ◌++◌, map, length, drop, None, sym, refl, ◌∙◌, arith}
 use Rattle.store.specs.Slots.{Slot}
 use Rattle.viewer.specs.Answers.{value_of}
 use Rattle.viewer.specs.Viewing.{Given, View, state_at, fresh, views}
-use Rattle.viewer.specs.Rules.{Book, blank, books, viewed, kept, told}
+use Rattle.viewer.specs.Rules.{Book, blank, books, view_after, book_after, values_told}
 use Rattle.viewer.specs.Model.{Frame, Now, called, ran, said}
 use Rattle.viewer.specs.Promises.{Promise, Priced, record_at, shelf}
 use Rattle.viewer.specs.declared.Call.{Call}
@@ -15,8 +15,8 @@ use Rattle.viewer.proofs.Agreeing.Agree.{shut, live}
 
 -- what a list of calls makes of a session that agrees
 record After (f : Frame) (start : List ℕ) (base : List Slot) (v : View) (b : Book) (h : Now) (calls : List Call) : Type 0 where
-  pub telling : map value_of (said f h calls) ≡ told (given_of f start (length base)) v b calls
-  pub agrees : Agree f start base (viewed (given_of f start (length base)) v calls) (kept (given_of f start (length base)) v b calls) (ran f h calls)
+  pub telling : map value_of (said f h calls) ≡ values_told (given_of f start (length base)) v b calls
+  pub agrees : Agree f start base (view_after (given_of f start (length base)) v calls) (book_after (given_of f start (length base)) v b calls) (ran f h calls)
 
 after : StepsOn → DropsOne → GoesBack → (f : Frame) (start : List ℕ) (base : List Slot) → Fair f start →
     (v : View) (b : Book) (h : Now) (calls : List Call) → Agree f start base v b h → After f start base v b h calls
@@ -56,7 +56,7 @@ ends f start base v b h (live a) =
     }
 
 -- as made, a session agrees
-made : (f : Frame) (h : Now) → h.room ≡ 0 → h.held ≡ [] → h.count ≡ 0 → Agree f h.state h.slots fresh blank h
+made : (f : Frame) (h : Now) → h.room ≡ None → h.held ≡ [] → h.count ≡ 0 → Agree f h.state h.slots fresh blank h
 made f h room held count = shut (record {
   is_open = refl;
   at = refl;
@@ -72,14 +72,14 @@ made f h room held count = shut (record {
 })
 
 pub keeps : StepsOn → DropsOne → GoesBack →
-    (f : Frame) (h : Now) → Fair f h.state → h.room ≡ 0 → h.scan ≡ 0 → h.held ≡ [] → h.count ≡ 0 →
+    (f : Frame) (h : Now) → Fair f h.state → h.room ≡ None → h.scan ≡ 0 → h.held ≡ [] → h.count ≡ 0 →
     (calls : List Call) →
     Promise (given_of f h.state (length h.slots)) h.slots calls (said f h calls)
     (ran f h calls).state (ran f h calls).held (ran f h calls).count (ran f h calls).slots
 keeps ahead drops goes f h fair room scan held count calls =
     let given : Given = given_of f h.state (length h.slots) in
     let all = after ahead drops goes f h.state h.slots fair fresh blank h calls (made f h room held count) in
-    let end = ends f h.state h.slots (viewed given fresh calls) (kept given fresh blank calls) (ran f h calls) all.agrees in
+    let end = ends f h.state h.slots (view_after given fresh calls) (book_after given fresh blank calls) (ran f h calls) all.agrees in
     record {
       replies = all.telling;
       stands = end.stands;

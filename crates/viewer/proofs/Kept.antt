@@ -1,5 +1,5 @@
 -- The promise is kept: from a closed session, every list of calls.
-use Rattle.std.proofs.Common.{◌≡◌, List, [], length}
+use Rattle.std.proofs.Common.{◌≡◌, List, [], length, None}
 use Rattle.viewer.specs.Model.{Frame, Now, ran, said}
 use Rattle.viewer.specs.Promises.{Promise}
 use Rattle.viewer.specs.declared.Call.{Call}
@@ -9,7 +9,7 @@ use Rattle.viewer.proofs.Holding.{drops_one}
 use Rattle.viewer.proofs.Climbing.{goes_back}
 use Rattle.viewer.proofs.Keeping.{keeps}
 
-pub promise_kept : (f : Frame) (h : Now) → Fair f h.state → h.room ≡ 0 → h.scan ≡ 0 → h.held ≡ [] → h.count ≡ 0 →
+pub promise_kept : (f : Frame) (h : Now) → Fair f h.state → h.room ≡ None → h.scan ≡ 0 → h.held ≡ [] → h.count ≡ 0 →
     (calls : List Call) →
     Promise (given_of f h.state (length h.slots)) h.slots calls (said f h calls)
     (ran f h calls).state (ran f h calls).held (ran f h calls).count (ran f h calls).slots

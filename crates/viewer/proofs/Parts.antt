@@ -1,17 +1,15 @@
 -- What an open, a turn and a seek make of a sound session.
-use Rattle.std.proofs.Common.{◌≡◌, ℕ, zero, suc, ◌+◌, ◌-◌, ◌<◌, ◌≤◌, min, true, false, cond, eqb, List, [], ◌∷◌, ◌++◌, length, get_or, take, drop, set, replicate, Some, None, Option, sym, refl, ap, ◌∙◌, inl, inr, append-nil, zero-le, arith}
+use Rattle.std.proofs.Common.{◌≡◌, ℕ, zero, suc, ◌+◌, ◌-◌, ◌<◌, ◌≤◌, min, Bool, true, false, cond, List, [], ◌∷◌, ◌++◌, length, get_or, take, drop, set, replicate, Some, None, Option, sym, refl, ap, ◌∙◌, append-nil, zero-le, arith}
 use Rattle.std.proofs.lemmas.Bool.{cases_Bool, cond-true, cond-false, eq-eqb}
 use Rattle.std.proofs.lemmas.List.{take_more, take_all, length-take, nil_from_length}
 use Rattle.terms.specs.declared.Scan.{Scan}
 use Rattle.machine.specs.Machines.{cap}
-use Rattle.store.specs.Slots.{Slot, puts}
-use Rattle.store.specs.Slots.Slot.{empty, held}
+use Rattle.store.specs.Slots.{Slot}
+use Rattle.store.specs.Slots.Slot.{empty}
 use Rattle.checkpoints.specs.Backs.{Act, steps, back, back_acts, walk, walked}
 use Rattle.checkpoints.proofs.Rule.{steps_append, back_left}
-use Rattle.viewer.specs.Answers.{holds}
 use Rattle.viewer.specs.Viewing.{Given, state_at, latest}
 use Rattle.viewer.specs.Model.{Frame, Now, dropped, returned, sought, finding, shed, recounted, emptied, opened}
-use Rattle.viewer.specs.declared.Watch.{Watch}
 use Rattle.viewer.proofs.Sound.{Fair, Standing, given_of, DropsOne, GoesBack}
 
 -- ---- open
@@ -25,11 +23,11 @@ emptied_all : (k : ℕ) (xs : List Slot) → k ≤ length xs → emptied k 0 xs 
 unfolding emptied
 emptied_all zero xs h = refl
 emptied_all (suc k) [] h = absurd (omega arith)
-emptied_all (suc k) (x ∷ xs) h = emptied_past k 0 empty xs ∙ ap (λ (l : List Slot). empty ∷ l) (emptied_all k xs (omega arith))
+emptied_all (suc k) (x ∷ xs) h = grind (arith, emptied_all k xs (omega arith), emptied_past)
 
 pub first_slot : (k : ℕ) (y : Slot) (xs : List Slot) → suc k ≤ length xs → set (emptied k 1 xs) 0 y ≡ y ∷ replicate k empty ++ drop (suc k) xs
 first_slot k y [] h = absurd (omega arith)
-first_slot k y (x ∷ xs) h = rw (emptied_past k 0 x xs) (ap (λ (l : List Slot). y ∷ l) (emptied_all k xs (omega arith)))
+first_slot k y (x ∷ xs) h = grind (arith, emptied_past, emptied_all)
 
 pub state_start : (given : Given) → state_at given 0 ≡ given.start
 unfolding state_at
@@ -39,29 +37,7 @@ pub opening : (f : Frame) (start : List ℕ) (base : List Slot) (s : ℕ) (h : N
     1 ≤ s → s ≤ 32 → s ≤ length base → f.wide ≡ f.width → h.state ≡ start → h.slots ≡ base →
     Standing f start base s 0 0 0 [] (opened f s h)
 opening f start base zero h fair some most fits same state slots = absurd (omega arith)
-opening f start base (suc k) h fair some most fits same state slots =
-    let given : Given = given_of f start (length base) in
-    let e : suc k - 1 ≡ k = omega arith in
-    let wide : length h.state ≡ f.width = ap length state ∙ fair.sized start fair.starts ∙ same in
-    let put : puts f.width (emptied (suc k - 1) 1 h.slots) 0 h.state ≡ set (emptied (suc k - 1) 1 h.slots) 0 (held h.state) = cond-true (eqb (length h.state) f.width) _ _ (eq-eqb (length h.state) f.width wide) in
-    let z = state_start given in
-    let row : set (emptied (suc k - 1) 1 h.slots) 0 (held h.state) ≡ held (state_at given 0) ∷ replicate (suc k - 1) empty ++ drop (suc k) base = rw (e, slots, state, z) (first_slot k (held start) base fits) in
-    record {
-      most = most;
-      fits = fits;
-      same = same;
-      within = zero-le;
-      rises = zero-le;
-      short = omega arith;
-      state = state ∙ sym z;
-      count = refl;
-      capped = zero-le;
-      slots = put ∙ row;
-      room = refl;
-      scan = refl;
-      place = refl;
-      held = refl;
-    }
+opening f start base (suc k) h fair some most fits same state slots = grind (arith, given_of, cond-true, eq-eqb, state_start, first_slot, zero-le)
 
 -- ---- turn
 
@@ -95,22 +71,7 @@ shedding drops f start base fair (suc k) s n c p ps h size st =
 
 pub counting_anew : (f : Frame) (start : List ℕ) (base : List Slot) (s n c p : ℕ) (ps : List ℕ) (h : Now) →
     Standing f start base s n c p ps h → Standing f start base s n 0 p ps (recounted h)
-counting_anew f start base s n c p ps h st = record {
-  most = st.most;
-  fits = st.fits;
-  same = st.same;
-  within = st.within;
-  rises = st.rises;
-  short = st.short;
-  state = st.state;
-  count = refl;
-  capped = zero-le;
-  slots = st.slots;
-  room = st.room;
-  scan = st.scan;
-  place = st.place;
-  held = st.held;
-}
+counting_anew f start base s n c p ps h st = grind arith
 
 -- ---- back
 
@@ -138,38 +99,26 @@ abbrev pub scanned : Option ℕ → Option Scan
 scanned None = None
 scanned (Some k) = Some (record { 0 = k })
 
-pub record Sought (f : Frame) (start : List ℕ) (base : List Slot) (watch : Watch) (s n c : ℕ) (ps : List ℕ) (h : Now) (to : Option ℕ) : Type 0 where
+pub record Sought (f : Frame) (start : List ℕ) (base : List Slot) (meets : List ℕ → Bool) (s n c : ℕ) (ps : List ℕ) (h : Now) (to : Option ℕ) : Type 0 where
   pub low : ending to ≤ n
   pub rest : List ℕ
   pub is : walked s (n - ending to) n (0 ∷ ps) ≡ 0 ∷ rest
-  pub stands : Standing f start base s (ending to) (min cap (c + steps (walk s (n - ending to) n (0 ∷ ps)))) 0 rest (sought f watch n h)
-  pub found : finding f watch n h ≡ scanned to
+  pub stands : Standing f start base s (ending to) (min cap (c + steps (walk s (n - ending to) n (0 ∷ ps)))) 0 rest (sought f meets n h)
+  pub found : finding f meets n h ≡ scanned to
 
--- the watch holds one back from here
-seek_here : (f : Frame) (start : List ℕ) (base : List Slot) (watch : Watch) (s n c : ℕ) (ps : List ℕ) (h : Now) →
-    Backed f start base s (suc n) c ps h → holds watch (returned f h).state ≡ true → Sought f start base watch s (suc n) c ps h (Some n)
+-- the meets holds one back from here
+seek_here : (f : Frame) (start : List ℕ) (base : List Slot) (meets : List ℕ → Bool) (s n c : ℕ) (ps : List ℕ) (h : Now) →
+    Backed f start base s (suc n) c ps h → meets (returned f h).state ≡ true → Sought f start base meets s (suc n) c ps h (Some n)
 unfolding sought finding
-seek_here f start base watch s n c ps h b e =
-    let d : suc n - n ≡ 1 = omega arith in
-    let m : suc n - 1 ≡ n = omega arith in
-    let a = append-nil (back_acts s (suc n) (0 ∷ ps)) in
-    let st : Standing f start base s n (min cap (c + steps (back_acts s (suc n) (0 ∷ ps)))) 0 b.rest (returned f h) = rw m at b.stands in
-    let at = st.scan in
-    record {
-      low = omega arith;
-      rest = b.rest;
-      is = rw d b.is;
-      stands = rw (d, a, e) st;
-      found = rw e (ap (λ (x : ℕ). Some (record { 0 = x })) at);
-    }
+seek_here f start base meets s n c ps h b e = grind (arith, append-nil, Standing)
 
 -- it does not: on from there
-seek_on : (f : Frame) (start : List ℕ) (base : List Slot) (watch : Watch) (s n c : ℕ) (ps : List ℕ) (h : Now) (to : Option ℕ) →
-    (b : Backed f start base s (suc n) c ps h) → holds watch (returned f h).state ≡ false →
-    Sought f start base watch s n (min cap (c + steps (back_acts s (suc n) (0 ∷ ps)))) b.rest (returned f h) to →
-    Sought f start base watch s (suc n) c ps h to
+seek_on : (f : Frame) (start : List ℕ) (base : List Slot) (meets : List ℕ → Bool) (s n c : ℕ) (ps : List ℕ) (h : Now) (to : Option ℕ) →
+    (b : Backed f start base s (suc n) c ps h) → meets (returned f h).state ≡ false →
+    Sought f start base meets s n (min cap (c + steps (back_acts s (suc n) (0 ∷ ps)))) b.rest (returned f h) to →
+    Sought f start base meets s (suc n) c ps h to
 unfolding sought finding
-seek_on f start base watch s n c ps h to b e more =
+seek_on f start base meets s n c ps h to b e more =
     let l = more.low in
     let d : suc n - ending to ≡ suc (n - ending to) = omega arith in
     let m : suc n - 1 ≡ n = omega arith in
@@ -192,33 +141,27 @@ seek_on f start base watch s n c ps h to b e more =
       found = rw e more.found;
     }
 
-seek_none : (f : Frame) (start : List ℕ) (base : List Slot) (watch : Watch) (s c : ℕ) (ps : List ℕ) (h : Now) →
-    Standing f start base s 0 c 0 ps h → Sought f start base watch s 0 c ps h None
+seek_none : (f : Frame) (start : List ℕ) (base : List Slot) (meets : List ℕ → Bool) (s c : ℕ) (ps : List ℕ) (h : Now) →
+    Standing f start base s 0 c 0 ps h → Sought f start base meets s 0 c ps h None
 unfolding sought finding
-seek_none f start base watch s c ps h st =
-    let e : min cap (c + 0) ≡ c = omega (arith, st.capped) in
-    record { low = zero-le; rest = ps; is = refl; stands = rw e st; found = refl }
+seek_none f start base meets s c ps h st = grind arith
 
-seek_next : (f : Frame) (start : List ℕ) (base : List Slot) (watch : Watch) (given : Given) (s n c : ℕ) (ps : List ℕ) (h : Now) →
+seek_next : (f : Frame) (start : List ℕ) (base : List Slot) (meets : List ℕ → Bool) (given : Given) (s n c : ℕ) (ps : List ℕ) (h : Now) →
     (b : Backed f start base s (suc n) c ps h) → (returned f h).state ≡ state_at given n →
-    Sought f start base watch s n (min cap (c + steps (back_acts s (suc n) (0 ∷ ps)))) b.rest (returned f h) (latest given watch n) →
-    Sought f start base watch s (suc n) c ps h (cond (holds watch (state_at given n)) (Some n) (latest given watch n))
-seek_next f start base watch given s n c ps h b x more =
-    elim (cases_Bool (holds watch (state_at given n))) [
-      | inl it ↦ rw (cond-true (holds watch (state_at given n)) (Some n) (latest given watch n) it) (seek_here f start base watch s n c ps h b (ap (holds watch) x ∙ it))
-      | inr not ↦ rw (cond-false (holds watch (state_at given n)) (Some n) (latest given watch n) not) (seek_on f start base watch s n c ps h (latest given watch n) b (ap (holds watch) x ∙ not) more)
-    ]
+    Sought f start base meets s n (min cap (c + steps (back_acts s (suc n) (0 ∷ ps)))) b.rest (returned f h) (latest given meets n) →
+    Sought f start base meets s (suc n) c ps h (cond (meets (state_at given n)) (Some n) (latest given meets n))
+seek_next f start base meets given s n c ps h b x more = grind (arith, cases_Bool, cond-true, seek_here, cond-false, seek_on)
 
 backed_stands : (f : Frame) (start : List ℕ) (base : List Slot) (s n c : ℕ) (ps : List ℕ) (h : Now) →
     (b : Backed f start base s (suc n) c ps h) → Standing f start base s n (min cap (c + steps (back_acts s (suc n) (0 ∷ ps)))) 0 b.rest (returned f h)
-backed_stands f start base s n c ps h b = let m : suc n - 1 ≡ n = omega arith in rw m at b.stands
+backed_stands f start base s n c ps h b = grind arith
 
-pub seeking : GoesBack → (f : Frame) (start : List ℕ) (base : List Slot) → Fair f start → (watch : Watch) →
+pub seeking : GoesBack → (f : Frame) (start : List ℕ) (base : List Slot) → Fair f start → (meets : List ℕ → Bool) →
     (n s c : ℕ) (ps : List ℕ) (h : Now) → Standing f start base s n c 0 ps h →
-    Sought f start base watch s n c ps h (latest (given_of f start (length base)) watch n)
-seeking goes f start base fair watch zero s c ps h st = seek_none f start base watch s c ps h st
-seeking goes f start base fair watch (suc n) s c ps h st =
+    Sought f start base meets s n c ps h (latest (given_of f start (length base)) meets n)
+seeking goes f start base fair meets zero s c ps h st = seek_none f start base meets s c ps h st
+seeking goes f start base fair meets (suc n) s c ps h st =
     let one = backed goes f start base fair s (suc n) c ps h st (omega arith) in
     let next = backed_stands f start base s n c ps h one in
-    seek_next f start base watch (given_of f start (length base)) s n c ps h one next.state
-    (seeking goes f start base fair watch n s (min cap (c + steps (back_acts s (suc n) (0 ∷ ps)))) one.rest (returned f h) next)
+    seek_next f start base meets (given_of f start (length base)) s n c ps h one next.state
+    (seeking goes f start base fair meets n s (min cap (c + steps (back_acts s (suc n) (0 ∷ ps)))) one.rest (returned f h) next)

@@ -83,7 +83,9 @@ before_length p (q ∷ qs) = ap suc (before_length q qs)
 -- the highest held record
 pub top_held : (scans : List Sample) (p : ℕ) (ps : List ℕ) → model.top (map (record_at scans) (p ∷ ps)) ≡ Some (record_at scans (top p ps))
 top_held scans p [] = refl
-top_held scans p (q ∷ qs) = top_held scans q qs
+top_held scans p (q ∷ qs) =
+    let e : suc (suc (length (map (record_at scans) qs))) - 1 ≡ suc (suc (length (map (record_at scans) qs)) - 1) = omega arith in
+    rw e (top_held scans q qs)
 
 pub top_push : (p : ℕ) (ps : List ℕ) (q : ℕ) → top p (ps ++ (q ∷ [])) ≡ q
 top_push p [] q = refl

@@ -1,5 +1,5 @@
 -- When a session is sound: what an open one holds at scan n, and what its parts owe it.
-use Rattle.std.proofs.Common.{◌≡◌, ℕ, ◌+◌, ◌-◌, ◌<◌, ◌≤◌, min, true, List, [], ◌∷◌, ◌++◌, map, length, drop}
+use Rattle.std.proofs.Common.{◌≡◌, ℕ, ◌+◌, ◌-◌, ◌<◌, ◌≤◌, min, true, List, [], ◌∷◌, ◌++◌, map, length, drop, Some}
 use Rattle.machine.specs.Machines.{cap}
 use Rattle.source.specs.Scans as scans
 use Rattle.store.specs.Slots.{Slot}
@@ -34,7 +34,7 @@ pub record Standing (f : Frame) (start : List ℕ) (base : List Slot) (s n c p :
   -- the count never passes the cap
   pub capped : c ≤ cap
   pub slots : h.slots ≡ shelf (given_of f start (length base)) s (p ∷ ps) ++ drop s base
-  pub room : h.room ≡ s
+  pub room : h.room ≡ Some s
   pub scan : h.scan ≡ n
   pub place : h.place ≡ place_at f.scans n
   pub held : h.held ≡ map (record_at f.scans) (p ∷ ps)

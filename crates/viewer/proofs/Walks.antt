@@ -9,8 +9,8 @@ use Rattle.checkpoints.proofs.Rounds.{rounds_reach, rounds_least, rounds_bound}
 use Rattle.checkpoints.proofs.Rule.{steps_append, kept_gaps, walk_price, walk_count, walk_closed}
 use Rattle.checkpoints.proofs.Plays.{walk_schedule}
 use Rattle.checkpoints.proofs.Certificates.{count_least}
-use Rattle.viewer.specs.Rules.{Walk, onward}
-use Rattle.viewer.specs.Promises.{Price, Priced}
+use Rattle.viewer.specs.Rules.{SinceTurn, onward}
+use Rattle.viewer.specs.Promises.{WalkPrice, Priced}
 
 -- a + b backs are a backs and then b backs
 pub walk_append : (a b k s n : ℕ) (held : List ℕ) → k ≡ a + b → walk s k n held ≡ walk s a n held ++ walk s b (n - a) (walked s a n held)
@@ -43,7 +43,7 @@ walk_most k l s h b few =
     omega (arith, walk_price k s l 0 [] zero-le h (omega arith), kept_gaps s l 0 [] zero-le, ap (λ (d : ℕ). count d s) e, count_closed l s)
 
 -- the walk since a turn, seen from scan n
-pub record Trail (s n : ℕ) (held : List ℕ) (count : ℕ) (w : Walk) : Type 0 where
+pub record Trail (s n : ℕ) (held : List ℕ) (count : ℕ) (w : SinceTurn) : Type 0 where
   pub high : n ≤ w.from
   pub few : w.from ≤ 999999
   pub acts : w.acts ≡ walk s (w.from - n) w.from (0 ∷ [])
@@ -51,12 +51,12 @@ pub record Trail (s n : ℕ) (held : List ℕ) (count : ℕ) (w : Walk) : Type 0
   pub total : count ≡ steps w.acts
 
 -- where there is such a walk
-abbrev pub Trailing : ℕ → ℕ → List ℕ → ℕ → Option Walk → Type 0
+abbrev pub Trailing : ℕ → ℕ → List ℕ → ℕ → Option SinceTurn → Type 0
 Trailing s n held count None = Unit {0}
 Trailing s n held count (Some w) = Trail s n held count w
 
 -- k backs more
-trail_on : (k s n c : ℕ) (held : List ℕ) (w : Walk) → 1 ≤ s → k ≤ n → Trail s n held c w →
+trail_on : (k s n c : ℕ) (held : List ℕ) (w : SinceTurn) → 1 ≤ s → k ≤ n → Trail s n held c w →
     Trail s (n - k) (walked s k n held) (min cap (c + steps (walk s k n held))) (record { from = w.from; acts = w.acts ++ walk s k n held })
 trail_on k s n c held w h b t =
     let l : ℕ = w.from in
@@ -74,13 +74,13 @@ trail_on k s n c held w h b t =
       total = omega (arith, t.total, steps_append w.acts (walk s k n held), ap steps acts);
     }
 
-pub trailing_on : (k s n c : ℕ) (held : List ℕ) (o : Option Walk) → 1 ≤ s → k ≤ n → Trailing s n held c o →
+pub trailing_on : (k s n c : ℕ) (held : List ℕ) (o : Option SinceTurn) → 1 ≤ s → k ≤ n → Trailing s n held c o →
     Trailing s (n - k) (walked s k n held) (min cap (c + steps (walk s k n held))) (onward (walk s k n held) o)
 trailing_on k s n c held None h b t = tt
 trailing_on k s n c held (Some w) h b t = trail_on k s n c held w h b t
 
 -- back at the start
-trail_price : (s n c : ℕ) (held : List ℕ) (w : Walk) → 1 ≤ s → Trail s n held c w → n ≡ 0 → Price w.from s w.acts c
+trail_price : (s n c : ℕ) (held : List ℕ) (w : SinceTurn) → 1 ≤ s → Trail s n held c w → n ≡ 0 → WalkPrice w.from s w.acts c
 trail_price s n c held w h t z =
     let l : ℕ = w.from in
     let d : l - n ≡ l = omega arith in
@@ -95,6 +95,6 @@ trail_price s n c held w h t z =
       exact = sym t.total;
     }
 
-pub trailing_price : (s n c : ℕ) (held : List ℕ) (o : Option Walk) → 1 ≤ s → Trailing s n held c o → Priced n s o c
+pub trailing_price : (s n c : ℕ) (held : List ℕ) (o : Option SinceTurn) → 1 ≤ s → Trailing s n held c o → Priced n s o c
 trailing_price s n c held None h t = tt
 trailing_price s n c held (Some w) h t = λ z. trail_price s n c held w h t z

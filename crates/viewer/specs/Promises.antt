@@ -1,6 +1,7 @@
 -- The promise: a session answers every list of calls as the plain viewer does, and keeps the rules.
-use Rattle.std.specs.Prelude.{◌≡◌, ℕ, ◌+◌, ◌-◌, ◌*◌, ◌≤◌, List, ◌++◌, map, length, drop, replicate, Some, None, Option}
+use Rattle.std.specs.Prelude.{◌≡◌, ℕ, ◌+◌, ◌-◌, ◌*◌, ◌≤◌, List, ◌++◌, map, length, drop, replicate, Some, None, Option, Result}
 use Rattle.terms.specs.declared.Place.{Place}
+use Rattle.terms.specs.declared.Refusal.{Refusal}
 use Rattle.source.specs.Scans.{Sample, first}
 use Rattle.store.specs.Slots.{Slot}
 use Rattle.store.specs.Slots.Slot.{empty, held}
@@ -10,7 +11,7 @@ use Rattle.checkpoints.specs.Counts.{rounds}
 use Rattle.checkpoints.specs.Schedules.{Schedule}
 use Rattle.viewer.specs.Answers.{value_of}
 use Rattle.viewer.specs.Viewing.{Given, state_at, fresh}
-use Rattle.viewer.specs.Rules.{Walk, blank, viewed, kept, told}
+use Rattle.viewer.specs.Rules.{SinceTurn, blank, view_after, book_after, values_told}
 use Rattle.viewer.specs.declared.Held.{Held}
 use Rattle.viewer.specs.declared.Call.{Call}
 use Rattle.viewer.specs.declared.Answer.{Answer}
@@ -28,7 +29,7 @@ abbrev pub shelf : Given → ℕ → List ℕ → List Slot
 shelf given s scans = map (λ n. held (state_at given n)) scans ++ replicate (s - length scans) empty
 
 -- the steps of a walk from l with s slots, by the closed formula and against every schedule
-pub record Price (l s : ℕ) (acts : List Act) (count : ℕ) : Type 0 where
+pub record WalkPrice (l s : ℕ) (acts : List Act) (count : ℕ) : Type 0 where
   -- r is the least number with l ≤ B(s, r)
   pub reaches : l ≤ reach s (rounds l s)
   pub least : (k : ℕ) → l ≤ reach s k → rounds l s ≤ k
@@ -39,21 +40,21 @@ pub record Price (l s : ℕ) (acts : List Act) (count : ℕ) : Type 0 where
   pub exact : steps acts ≡ count
 
 -- what a finished walk owes
-abbrev pub Priced : ℕ → ℕ → Option Walk → ℕ → Type 0
+abbrev pub Priced : ℕ → ℕ → Option SinceTurn → ℕ → Type 0
 Priced at s None count = Unit {0}
-Priced at s (Some w) count = at ≡ 0 → Price w.from s w.acts count
+Priced at s (Some w) count = at ≡ 0 → WalkPrice w.from s w.acts count
 
 -- what holds of a session after a list of calls: `slots` are the store's at making
 pub record Promise (given : Given) (slots : List Slot) (calls : List Call)
-    (answers : List Answer) (state : List ℕ) (records : List Held) (count : ℕ) (now : List Slot) : Type 0 where
+    (answers : List (Result Answer Refusal)) (state : List ℕ) (records : List Held) (count : ℕ) (now : List Slot) : Type 0 where
   -- every answer is the plain viewer's, and a count's number is the rules'
-  pub replies : map value_of answers ≡ told given fresh blank calls
+  pub replies : map value_of answers ≡ values_told given fresh blank calls
   -- the machine's state is that of the scan at which the viewer stands
-  pub stands : state ≡ state_at given (viewed given fresh calls).at
+  pub stands : state ≡ state_at given (view_after given fresh calls).at
   -- the held list, each scan with its place, and the count are what the rules make
-  pub holding : records ≡ map (record_at given.scans) (kept given fresh blank calls).held
-  pub counting : count ≡ (kept given fresh blank calls).count
+  pub holding : records ≡ map (record_at given.scans) (book_after given fresh blank calls).held
+  pub counting : count ≡ (book_after given fresh blank calls).count
   -- slot j holds the state of the j-th held scan, slots from the list's end up to s are empty, the others are as at making
-  pub snapshots : now ≡ shelf given (kept given fresh blank calls).slots (kept given fresh blank calls).held ++ drop (kept given fresh blank calls).slots slots
+  pub snapshots : now ≡ shelf given (book_after given fresh blank calls).slots (book_after given fresh blank calls).held ++ drop (book_after given fresh blank calls).slots slots
   -- a walk from a turn back to the start costs the formula, and no schedule is cheaper
-  pub price : Priced (viewed given fresh calls).at (kept given fresh blank calls).slots (kept given fresh blank calls).since (kept given fresh blank calls).count
+  pub price : Priced (view_after given fresh calls).at (book_after given fresh blank calls).slots (book_after given fresh blank calls).since (book_after given fresh blank calls).count

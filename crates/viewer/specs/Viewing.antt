@@ -1,13 +1,13 @@
--- The plain viewer: it keeps no snapshots, and finds every state from the start.
-use Rattle.std.specs.Prelude.{ℕ, zero, suc, ◌+◌, ◌-◌, Bool, true, false, cond, ◌||◌, List, length, take, Some, None, Option, ◌==◌, nat_le, nat_lt, slice_index}
+-- The plain viewer: it keeps no snapshots, and finds every state from the start. It shares nothing with the model but what a
+-- call and a watch are: that is what the promise is worth.
+use Rattle.std.specs.Prelude.{ℕ, zero, suc, ◌+◌, ◌-◌, Bool, true, false, if◌then◌else◌, ◌||◌, List, length, take, Some, None, Option, ◌==◌, nat_le, nat_lt, slice_index}
 use Rattle.terms.specs.declared.Refusal.{Refusal}
 use Rattle.terms.specs.declared.Refusal.TheVariants.{NotOpen, BadSlots, WidthsDiffer, AtStart, AlreadyOpen, AtEnd, NoWord}
 use Rattle.terms.specs.Refusals.{number, place as placed}
 use Rattle.machine.specs.Machines.{run}
 use Rattle.source.specs.Scans.{Sample, inputs}
-use Rattle.viewer.specs.Answers.{Value, holds, watched}
+use Rattle.viewer.specs.Answers.{Value, fits, holds}
 use Rattle.viewer.specs.Answers.Value.{total, scan, none, word, refusal}
-use Rattle.viewer.specs.declared.Watch.{Watch}
 use Rattle.viewer.specs.declared.Call.{Call}
 use Rattle.viewer.specs.declared.Call.TheVariants.{Open, Ahead, Back, Seek, Look, Count, Turn}
 
@@ -36,25 +36,25 @@ state_at given i = run given.next given.start (take i (inputs given.scans))
 abbrev pub lowest : ℕ
 lowest = 0
 
--- the highest scan below n at which a watch holds
-abbrev pub latest : Given → Watch → ℕ → Option ℕ
-latest given watch zero = None
-latest given watch (suc k) = cond (holds watch (state_at given k)) (Some k) (latest given watch k)
+-- the highest scan below n whose state meets a condition
+abbrev pub latest : Given → (List ℕ → Bool) → ℕ → Option ℕ
+latest given meets zero = None
+latest given meets (suc k) = if meets (state_at given k) then Some k else latest given meets k
 
 -- why an open viewer refuses a call; why a closed one does
 abbrev pub when_open : Given → ℕ → Call → Option Refusal
 when_open given n (Open s) = Some AlreadyOpen
-when_open given n Ahead = cond (nat_le (length given.scans) n) (Some AtEnd) None
-when_open given n Back = cond (nat_le n lowest) (Some AtStart) None
-when_open given n (Seek watch) = cond (nat_lt (watched watch) given.wide) (cond (nat_le n lowest) (Some AtStart) None) (Some NoWord)
-when_open given n (Look w) = cond (nat_lt w given.wide) None (Some NoWord)
+when_open given n Ahead = if nat_le (length given.scans) n then Some AtEnd else None
+when_open given n Back = if nat_le n lowest then Some AtStart else None
+when_open given n (Seek watch) = if fits watch given.wide then (if nat_le n lowest then Some AtStart else None) else Some NoWord
+when_open given n (Look w) = if nat_lt w given.wide then None else Some NoWord
 when_open given n Count = None
 when_open given n Turn = None
 
 abbrev pub when_closed : Given → Call → Option Refusal
 when_closed given (Open s) =
-    cond (s == 0 || (nat_lt 32 s || nat_lt given.capacity s)) (Some BadSlots)
-    (cond (given.wide == given.width) None (Some WidthsDiffer))
+    if s == 0 || (nat_lt 32 s || nat_lt given.capacity s) then Some BadSlots
+    else (if given.wide == given.width then None else Some WidthsDiffer)
 when_closed given Ahead = Some NotOpen
 when_closed given Back = Some NotOpen
 when_closed given (Seek watch) = Some NotOpen
@@ -63,14 +63,14 @@ when_closed given Count = Some NotOpen
 when_closed given Turn = Some NotOpen
 
 abbrev pub refuses : Given → View → Call → Option Refusal
-refuses given v call = cond v.is_open (when_open given v.at call) (when_closed given call)
+refuses given v call = if v.is_open then when_open given v.at call else when_closed given call
 
 -- the scan at which an accepted call ends
 abbrev pub landing : Given → ℕ → Call → ℕ
 landing given n (Open s) = 0
 landing given n Ahead = n + 1
 landing given n Back = n - 1
-landing given n (Seek watch) = elim (latest given watch n) [ None ↦ lowest | Some k ↦ k ]
+landing given n (Seek watch) = elim (latest given (holds watch) n) [ None ↦ lowest | Some k ↦ k ]
 landing given n (Look w) = n
 landing given n Count = n
 landing given n Turn = n
@@ -80,7 +80,7 @@ abbrev pub tells : Given → ℕ → ℕ → Call → Value
 tells given n c (Open s) = total (length given.scans)
 tells given n c Ahead = scan (n + 1)
 tells given n c Back = scan (n - 1)
-tells given n c (Seek watch) = elim (latest given watch n) [ None ↦ none | Some k ↦ scan k ]
+tells given n c (Seek watch) = elim (latest given (holds watch) n) [ None ↦ none | Some k ↦ scan k ]
 tells given n c (Look w) = word (slice_index (state_at given n) w)
 tells given n c Count = Value.count c
 tells given n c Turn = scan n

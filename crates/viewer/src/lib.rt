@@ -1,19 +1,22 @@
 // What is asked of a session and what it answers; the plain viewer, the rules and the promise are in specs/.
 #![tactic(auto)]
 
-use terms::{Place, Refusal, Scan};
+mod condition;
 
-// What a seek looks for in a state.
-#[derive(Clone, Copy)]
+pub use condition::Condition;
+use terms::{Place, Scan};
+
+/// What a seek looks for in a state: a condition on one of its words.
+#[derive(Clone, Copy, PartialEq, Eq, Debug)]
 pub enum Watch {
-    // the word and the value agree where the mask has ones
+    /// the word and the value agree where the mask has ones
     Equal { word: u32, mask: u32, value: u32 },
-    // the word has at least so many ones
+    /// the word has at least so many ones
     Ones { word: u32, least: u32 },
 }
 
-// One call of a session.
-#[derive(Clone, Copy)]
+/// One call of a session.
+#[derive(Clone, Copy, PartialEq, Eq, Debug)]
 pub enum Call {
     Open(u32),
     Ahead,
@@ -24,28 +27,27 @@ pub enum Call {
     Turn,
 }
 
-// What a call answers.
-#[derive(Clone, Copy)]
+/// What an accepted call answers.
+#[derive(Clone, Copy, PartialEq, Eq, Debug)]
 pub enum Answer {
-    // open: the total
+    /// open: the total
     Total(u32),
-    // ahead: the scan it ends at
+    /// ahead: the scan it ends at
     Reached(Scan),
-    // back: the scan it ends at
+    /// back: the scan it ends at
     Returned(Scan),
-    // seek: the scan it found, or none
+    /// seek: the scan it found, or none
     Found(Option<Scan>),
-    // turn: the scan, which stays
+    /// turn: the scan, which stays
     Turned(Scan),
-    // look: a word of the state
+    /// look: a word of the state
     Word(u32),
-    // count: the steps
+    /// count: the steps
     Steps(u64),
-    Refused(Refusal),
 }
 
-// A held scan with its place, which is none where the scan is the total.
-#[derive(Clone, Copy)]
+/// A held scan with its place, which is none where the scan is the total.
+#[derive(Clone, Copy, PartialEq, Eq, Debug)]
 pub struct Held {
     pub scan: Scan,
     pub place: Option<Place>,

@@ -1,13 +1,13 @@
-use Rattle.std.proofs.Common.{◌≡◌, ◌-◌}
-use Rattle.session.specs.Sessions.{frame, here}
+use Rattle.std.proofs.Common.{◌-◌}
 use Rattle.viewer.specs.Model.{finding, sought}
+use Rattle.session.proofs.Leading.{Leads}
 use Rattle.session.proofs.Session.find.Given as goal
 
 -- the backs that are left lead where all of them lead, and find the same
 abbrev pub invariant-loop : goal.invariant-loop
 invariant-loop g l =
-    (frame g.M.Machine g.S.Source g.T.Store l.self ≡ frame g.M.Machine g.S.Source g.T.Store l.initial.self)
-    × (sought (frame g.M.Machine g.S.Source g.T.Store l.initial.self) l.watch (l.backs - l.counter) (here g.M.Machine g.S.Source g.T.Store l.self)
-    ≡ sought (frame g.M.Machine g.S.Source g.T.Store l.initial.self) l.watch l.backs (here g.M.Machine g.S.Source g.T.Store l.initial.self))
-    × (finding (frame g.M.Machine g.S.Source g.T.Store l.initial.self) l.watch (l.backs - l.counter) (here g.M.Machine g.S.Source g.T.Store l.self)
-    ≡ finding (frame g.M.Machine g.S.Source g.T.Store l.initial.self) l.watch l.backs (here g.M.Machine g.S.Source g.T.Store l.initial.self))
+    let meets = g.C.Condition.holds l.condition in
+    record {
+      goes : Leads g.M.Machine g.S.Source g.T.Store (λ f. sought f meets (l.backs - l.counter)) (λ f. sought f meets l.backs) l.initial.self l.self;
+      finds : Leads g.M.Machine g.S.Source g.T.Store (λ f. finding f meets (l.backs - l.counter)) (λ f. finding f meets l.backs) l.initial.self l.self;
+    }
