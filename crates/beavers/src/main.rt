@@ -4,23 +4,53 @@
 use machine::{Counter, Machine};
 use std::io;
 use tabletext::read_tape;
-use tape::{Entry, Move, Tape};
-
-// The control that means rest.
-const REST: u32 = 255;
+use tape::{Entry, Move, REST, Tape};
 
 // More steps than any of these machines makes.
 const LIMIT: u32 = 1000;
 
-fn entry(control: u32, read: u32, write: u32, motion: Move, next: u32) -> Entry {
-    Entry {
-        control,
-        read,
-        write,
-        motion,
-        next,
-    }
+// An entry as the line of a table: the control and the symbol that is read; the symbol written, the move, the next control.
+type Line = (u32, u32, u32, Move, u32);
+
+fn entry((control, read, write, motion, next): Line) -> Entry {
+    Entry::new(control, read, write, motion, next)
 }
+
+const TWO: [Line; 4] = [
+    (0, 0, 1, Move::Right, 1),
+    (0, 1, 1, Move::Left, 1),
+    (1, 0, 1, Move::Left, 0),
+    (1, 1, 1, Move::Right, REST),
+];
+
+const MOST_ONES: [Line; 6] = [
+    (0, 0, 1, Move::Right, 1),
+    (0, 1, 1, Move::Right, REST),
+    (1, 0, 0, Move::Right, 2),
+    (1, 1, 1, Move::Right, 1),
+    (2, 0, 1, Move::Left, 2),
+    (2, 1, 1, Move::Left, 0),
+];
+
+const MOST_STEPS: [Line; 6] = [
+    (0, 0, 1, Move::Right, 1),
+    (0, 1, 1, Move::Right, REST),
+    (1, 0, 1, Move::Left, 1),
+    (1, 1, 0, Move::Right, 2),
+    (2, 0, 1, Move::Left, 2),
+    (2, 1, 1, Move::Left, 0),
+];
+
+const FOUR: [Line; 8] = [
+    (0, 0, 1, Move::Right, 1),
+    (0, 1, 1, Move::Left, 1),
+    (1, 0, 1, Move::Left, 0),
+    (1, 1, 0, Move::Left, 2),
+    (2, 0, 1, Move::Right, REST),
+    (2, 1, 1, Move::Left, 3),
+    (3, 0, 1, Move::Right, 3),
+    (3, 1, 0, Move::Right, 0),
+];
 
 // The binary counter of the documentation: it adds one to a number whose lowest digit is under the head.
 const COUNTER: &[u8; 76] =
@@ -46,10 +76,10 @@ fn beaver(states: u32, table: &[Entry]) -> Option<(u64, u32)> {
     let mut tape = Tape::new(states).ok()?;
     tape.set_table(table).ok()?;
     let (steps, words) = run(tape, [0, 64, 0, 0, 0, 0, 0, 0, 0, 0])?;
-    let mut ones: u32 = 0;
-    for word in &words[2..10] {
-        ones = ones.saturating_add(word.count_ones());
-    }
+    // a fold: sum is no plainer, since it asks for a proof that the ones fit
+    let ones = words[2..]
+        .iter()
+        .fold(0u32, |ones, word| ones.saturating_add(word.count_ones()));
     Some((steps, ones))
 }
 
@@ -68,42 +98,18 @@ fn show(rt: &impl Print, name: &str, ran: Option<(u64, u32)>) -> io::Result<()> 
 }
 
 fn main(rt: HostRuntime) -> io::Result<()> {
-    let two = [
-        entry(0, 0, 1, Move::Right, 1),
-        entry(0, 1, 1, Move::Left, 1),
-        entry(1, 0, 1, Move::Left, 0),
-        entry(1, 1, 1, Move::Right, REST),
-    ];
-    show(&rt, "two states", beaver(2, &two))?;
-    let most_ones = [
-        entry(0, 0, 1, Move::Right, 1),
-        entry(0, 1, 1, Move::Right, REST),
-        entry(1, 0, 0, Move::Right, 2),
-        entry(1, 1, 1, Move::Right, 1),
-        entry(2, 0, 1, Move::Left, 2),
-        entry(2, 1, 1, Move::Left, 0),
-    ];
-    show(&rt, "three states, most ones", beaver(3, &most_ones))?;
-    let most_steps = [
-        entry(0, 0, 1, Move::Right, 1),
-        entry(0, 1, 1, Move::Right, REST),
-        entry(1, 0, 1, Move::Left, 1),
-        entry(1, 1, 0, Move::Right, 2),
-        entry(2, 0, 1, Move::Left, 2),
-        entry(2, 1, 1, Move::Left, 0),
-    ];
-    show(&rt, "three states, most steps", beaver(3, &most_steps))?;
-    let four = [
-        entry(0, 0, 1, Move::Right, 1),
-        entry(0, 1, 1, Move::Left, 1),
-        entry(1, 0, 1, Move::Left, 0),
-        entry(1, 1, 0, Move::Left, 2),
-        entry(2, 0, 1, Move::Right, REST),
-        entry(2, 1, 1, Move::Left, 3),
-        entry(3, 0, 1, Move::Right, 3),
-        entry(3, 1, 0, Move::Right, 0),
-    ];
-    show(&rt, "four states", beaver(4, &four))?;
+    show(&rt, "two states", beaver(2, &TWO.map(entry)))?;
+    show(
+        &rt,
+        "three states, most ones",
+        beaver(3, &MOST_ONES.map(entry)),
+    )?;
+    show(
+        &rt,
+        "three states, most steps",
+        beaver(3, &MOST_STEPS.map(entry)),
+    )?;
+    show(&rt, "four states", beaver(4, &FOUR.map(entry)))?;
     match count_up() {
         Some((steps, word)) => println!(rt; "counter: {steps} steps, {word:08x}"),
         None => println!(rt; "counter: refused"),

@@ -6,10 +6,7 @@ use std::io;
 
 pub(crate) fn makers(rt: &HostRuntime) -> io::Result<()> {
     report(rt, "a row under rule 256", Row::new(256))?;
-    let mut row = match Row::new(255) {
-        Ok(row) => row,
-        Err(refusal) => return report::<()>(rt, "a row under rule 255", Err(refusal)),
-    };
+    let mut row = Row::new(255).unwrap();
     report(rt, "cell 255 set to 1", row.set_cell(255, 1))?;
     report(rt, "cell 256 set to 1", row.set_cell(256, 1))?;
     report(rt, "cell 255 set to 2", row.set_cell(255, 2))?;
@@ -17,10 +14,7 @@ pub(crate) fn makers(rt: &HostRuntime) -> io::Result<()> {
 }
 
 pub(crate) fn states(rt: &HostRuntime) -> io::Result<()> {
-    let mut row = match Row::new(90) {
-        Ok(row) => Counter::new(row),
-        Err(refusal) => return report::<()>(rt, "a row under rule 90", Err(refusal)),
-    };
+    let mut row = Counter::new(Row::new(90).unwrap());
     report(rt, "a row saved into 8 words", row.save(&mut [0; 8]))?;
     report(rt, "a row saved into 7 words", row.save(&mut [0; 7]))?;
     report(rt, "a row saved into 9 words", row.save(&mut [0; 9]))?;

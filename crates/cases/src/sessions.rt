@@ -8,12 +8,8 @@ use std::io;
 use viewer::Watch;
 
 pub(crate) fn widths(rt: &HostRuntime) -> io::Result<()> {
-    let Ok(row) = Row::new(30) else {
-        return Ok(());
-    };
-    let Ok(signal) = Signal::new(1) else {
-        return Ok(());
-    };
+    let row = Row::new(30).unwrap();
+    let signal = Signal::new(1).unwrap();
     let mut words = [0u32; 16];
     let mut session = Session::new(row, signal, Copies::new(&mut words, 4));
     report(
@@ -24,12 +20,8 @@ pub(crate) fn widths(rt: &HostRuntime) -> io::Result<()> {
 }
 
 pub(crate) fn calls(rt: &HostRuntime) -> io::Result<()> {
-    let Ok(row) = Row::new(30) else {
-        return Ok(());
-    };
-    let Ok(signal) = Signal::new(1) else {
-        return Ok(());
-    };
+    let row = Row::new(30).unwrap();
+    let signal = Signal::new(1).unwrap();
     let mut words = [0u32; 16];
     let mut session = Session::new(row, signal, Copies::new(&mut words, 8));
     report(rt, "a step ahead before the open", session.ahead())?;

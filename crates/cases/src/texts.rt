@@ -3,6 +3,7 @@ use std::io;
 use terms::Place;
 use words::{Fault, read_words};
 
+// A text with its words or its fault; its own texts: shorter than the fault's, without "of the recording".
 fn read(rt: &HostRuntime, text: &str) -> io::Result<()> {
     match read_words(rt.alloc(), text.as_bytes()) {
         Ok(words) => println!(rt; "the text '{text}': {words:?}"),

@@ -5,6 +5,7 @@
 use schedule::{count, split};
 use std::{env, io};
 
+// The pairs of the worked examples, written again: no plainer through their crate, which brings five libraries more.
 const WORKED: [(u32, u32); 10] = [
     (0, 3),
     (1, 1),
@@ -58,18 +59,14 @@ fn worked(rt: &impl Print) -> io::Result<()> {
 // The splits from scan 0 up, each with the scan where it ends, which is put into a slot unless it is the last below l.
 fn splits(rt: &impl Print, l: u32, s: u32) -> io::Result<()> {
     let mut m = l;
-    for used in 0..s {
-        let g = s - used;
+    for g in (1..=s).rev() {
         let Some(q) = split(m, g) else {
             break;
         };
         m = m.saturating_sub(q);
         let at = l.saturating_sub(m);
-        if m > 1 {
-            println!(rt; "split by {q} with {g} slots: scan {at} is put")?;
-        } else {
-            println!(rt; "split by {q} with {g} slots: scan {at} is the last")?;
-        }
+        let end = if m > 1 { "put" } else { "the last" };
+        println!(rt; "split by {q} with {g} slots: scan {at} is {end}")?;
     }
     Ok(())
 }

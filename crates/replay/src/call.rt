@@ -18,21 +18,16 @@ pub struct Call {
 }
 
 fn number(text: String) -> Result<u32, Trouble> {
-    match text.as_str().parse::<u32>() {
-        Ok(n) => Ok(n),
-        Err(_) => Err(Trouble::NoNumber(text)),
-    }
+    text.as_str().parse().map_err(|_| Trouble::NoNumber(text))
 }
 
 // `row RULE RECORDING [CELL ..]`, from the rule on.
 fn asked_row(heap: Global, rule: String, recording: String, args: Args) -> Result<Call, Trouble> {
-    let rule = number(rule)?;
-    let mut cells = Vec::new(heap);
-    for cell in args {
-        cells.push(number(cell)?)?;
-    }
     Ok(Call {
-        kind: Kind::Row { rule, cells },
+        kind: Kind::Row {
+            rule: number(rule)?,
+            cells: args.map(number).try_collect(heap)?,
+        },
         recording,
     })
 }
@@ -40,15 +35,9 @@ fn asked_row(heap: Global, rule: String, recording: String, args: Args) -> Resul
 // The words of a command line, the program's own name first.
 pub(crate) fn asked(heap: Global, mut args: Args) -> Result<Call, Trouble> {
     let _name = args.next();
-    let Some(kind) = args.next() else {
-        return Err(Trouble::Usage);
-    };
-    let Some(program) = args.next() else {
-        return Err(Trouble::Usage);
-    };
-    let Some(recording) = args.next() else {
-        return Err(Trouble::Usage);
-    };
+    let kind = args.next().ok_or(Trouble::Usage)?;
+    let program = args.next().ok_or(Trouble::Usage)?;
+    let recording = args.next().ok_or(Trouble::Usage)?;
     match kind.as_str() {
         "row" => asked_row(heap, program, recording, args),
         "tape" => Ok(Call {

@@ -19,7 +19,8 @@ use terms::Refusal;
 use trouble::Trouble;
 use words::read_words;
 
-// The row that a call asks for, its start cells set.
+// The row that a call asks for, its start cells set: any number of them here, at most one in walk.
+// A function in row for both would be longer than both.
 fn made_row(rule: u32, cells: &[u32]) -> Result<Row, Refusal> {
     let mut row = Row::new(rule)?;
     for cell in cells {
@@ -30,14 +31,8 @@ fn made_row(rule: u32, cells: &[u32]) -> Result<Row, Refusal> {
 
 // The tape that a table's file tells.
 fn made_tape(rt: &HostRuntime, file: &str) -> Result<Tape, Trouble> {
-    let text = match fs::read(rt, file) {
-        Ok(text) => text,
-        Err(e) => return Err(Trouble::NoTable(e)),
-    };
-    match read_tape(text.as_slice()) {
-        Ok(tape) => Ok(tape),
-        Err(bad) => Err(Trouble::BadTable(bad)),
-    }
+    let text = fs::read(rt, file).map_err(Trouble::NoTable)?;
+    Ok(read_tape(text.as_slice())?)
 }
 
 // The scans and marks of a recording, with the machine's words after each scan.
@@ -48,17 +43,14 @@ fn print_run<M: Machine + Drop>(
 ) -> Result<(), Trouble> {
     let states = replay_states(rt.alloc(), &mut machine, reader)?;
     print_total(rt, reader)?;
-    print_items(rt, reader, states.as_slice(), M::width())?;
+    print_items(rt, reader, states.as_slice(), M::W)?;
     Ok(())
 }
 
 fn replayed(rt: &HostRuntime) -> Result<(), Trouble> {
     let heap = rt.alloc();
     let Call { kind, recording } = asked(heap, env::args(rt)?)?;
-    let text = match fs::read(rt, recording.as_str()) {
-        Ok(text) => text,
-        Err(e) => return Err(Trouble::NoFile(e)),
-    };
+    let text = fs::read(rt, recording.as_str()).map_err(Trouble::NoFile)?;
     let words = read_words(heap, text.as_slice())?;
     let mut reader = Reader::new(words.as_slice());
     reader.check()?;

@@ -10,7 +10,7 @@ struct Words<'a>(&'a [u32]);
 
 impl fmt::Display for Words<'_> {
     fn fmt<W: fmt::Write>(&self, f: &mut fmt::Formatter<W>) -> fmt::Result {
-        if self.0.len() > 0 {
+        if !self.0.is_empty() {
             write!(f, ":")?;
         }
         for word in self.0 {
@@ -23,8 +23,9 @@ impl fmt::Display for Words<'_> {
 // The numbers of scans and marks; the reader goes back to its first item.
 pub(crate) fn print_total(rt: &HostRuntime, reader: &mut Reader) -> io::Result<()> {
     let scans = reader.total();
+    // tried as filter and count: count asks that the number fits a usize, which did not close
     let mut marks = 0u32;
-    while let Some(item) = reader.next_item() {
+    for item in reader.by_ref() {
         if let Item::Mark { .. } = item {
             marks = marks.saturating_add(1);
         }
@@ -41,8 +42,9 @@ pub(crate) fn print_items(
     width: usize,
 ) -> io::Result<()> {
     let mut rows = states.chunks(width.max(1));
+    // counted by hand: a scan keeps its number where no row is left for it, so enumerate would be no plainer
     let mut scan = 0u32;
-    while let Some(item) = reader.next_item() {
+    for item in reader {
         match item {
             Item::Scan {
                 place: Place(at),

@@ -6,12 +6,11 @@ mod draw;
 mod plain;
 mod tally;
 
-use anyhow::anyhow;
 use copies::Copies;
-use draw::{Field, Random, draw_calls, draw_recording, make_row, make_tape, signal_inputs};
+use draw::{Draw, Random, draw_recording, make_row, make_tape, number, signal_inputs};
 use machine::{Counter, Machine};
 use pages::Pages;
-use plain::{Plain, Shape, all_states};
+use plain::{Plain, Shape, State, all_states};
 use recording::Reader;
 use session::{Outcome, run};
 use source::{Signal, Source};
@@ -24,9 +23,11 @@ const LISTS: u32 = 72;
 
 const DRAWS: u32 = 100;
 
-// The words that a store is given at most.
+// The words that a store is given at most, a part of a fixed array: stores lie in lent words.
 const ROOM: usize = 700;
 
+// Kinds are chosen at run time, and each has a type of its own: a `dyn` value in place of these switches would have to be
+// made by a function, which the gate refuses.
 #[derive(Clone, Copy)]
 enum MachineKind {
     Row,
@@ -68,10 +69,32 @@ const STORES: [(StoreKind, &str); 5] = [
     (StoreKind::Unfit, "unfit stores"),
 ];
 
+// What the sessions of a combination are made from.
+#[derive(Clone, Copy)]
+struct Combination {
+    machine: MachineKind,
+    source: SourceKind,
+    store: StoreKind,
+}
+
 // The scans of a signal, and the slots of a store, by the number of a list.
 const TOTALS: [u32; 4] = [40, 7, 1, 0];
 
-const SLOTS: [usize; 9] = [3, 2, 5, 1, 8, 33, 6, 32, 12];
+const SLOTS: [u8; 9] = [3, 2, 5, 1, 8, 33, 6, 32, 12];
+
+// What a session is made from besides its store, with what is known of it: the number of scans, and every state.
+#[derive(Drop)]
+struct Subject<M, S> {
+    machine: M,
+    source: S,
+    total: u32,
+    states: Vec<State>,
+}
+
+// The first words of a room, as many as it has at most.
+fn front(words: &mut [u32; ROOM], count: usize) -> &mut [u32] {
+    &mut words[0..count.min(ROOM)]
+}
 
 // What every list of a combination shares.
 #[derive(Drop)]
@@ -84,320 +107,187 @@ struct Bench {
 }
 
 impl Bench {
-    // The slots of a store, by the number of the list.
-    fn slots(&self) -> usize {
-        SLOTS[(self.list % 9) as usize]
-    }
-}
-
-// What a session is made from besides its store, with what is known of it: the number of scans, and every state.
-#[derive(Drop)]
-struct Subject<'a, M, S> {
-    machine: M,
-    source: S,
-    total: u32,
-    states: &'a [u32],
-}
-
-// A count as a word.
-fn number(count: usize) -> u32 {
-    u32::try_from(count).unwrap_or(u32::MAX)
-}
-
-// One list of calls on one session over a store of this width and so many slots.
-fn trial<M: Machine + Drop, S: Source + Drop, T: Store + Drop>(
-    bench: &mut Bench,
-    subject: Subject<'_, M, S>,
-    store: T,
-    width: usize,
-    slots: usize,
-) -> Result<(), AllocError> {
-    let shape = Shape {
-        machine: number(M::width()),
-        store: number(width),
-        slots: number(slots),
-    };
-    let Subject {
-        machine,
-        source,
-        total,
-        states,
-    } = subject;
-    let field = Field {
-        width: shape.machine,
-        slots: shape.slots,
-        states,
-    };
-    let calls = draw_calls(&mut bench.random, field, DRAWS, bench.heap)?;
-    let Outcome {
-        session: _,
-        answers,
-    } = run(machine, source, store, calls.as_slice(), bench.heap);
-    let answers = answers?;
-    let mut plain = Plain::new(shape, total, states);
-    bench
-        .tally
-        .compare(calls.as_slice(), answers.as_slice(), &mut plain);
-    Ok(())
-}
-
-// Copies, with some words too many.
-fn with_copies<M: Machine + Drop, S: Source + Drop>(
-    bench: &mut Bench,
-    subject: Subject<'_, M, S>,
-) -> Result<(), AllocError> {
-    let wide = M::width().min(32);
-    let slots = bench.slots();
-    let room = slots.wrapping_mul(wide).wrapping_add(wide / 2);
-    let mut words = [0; ROOM];
-    let store = Copies::new(&mut words[0..room.min(ROOM)], wide);
-    trial(bench, subject, store, wide, slots)
-}
-
-// Pages, of which there are at most 32 slots.
-fn with_pages<M: Machine + Drop, S: Source + Drop>(
-    bench: &mut Bench,
-    subject: Subject<'_, M, S>,
-) -> Result<(), AllocError> {
-    let wide = M::width().min(32);
-    let slots = bench.slots();
-    let room = slots.wrapping_mul((wide + 3) / 4).wrapping_mul(4);
-    let mut words = [0; ROOM];
-    let store = Pages::new(&mut words[0..room.min(ROOM)], wide);
-    trial(bench, subject, store, wide, slots.min(32))
-}
-
-// One copy, and copies after it.
-fn with_pair<M: Machine + Drop, S: Source + Drop>(
-    bench: &mut Bench,
-    subject: Subject<'_, M, S>,
-) -> Result<(), AllocError> {
-    let wide = M::width().min(32);
-    let slots = bench.slots();
-    let room = slots.wrapping_mul(wide);
-    let mut first = [0; ROOM];
-    let mut second = [0; ROOM];
-    let one = Copies::new(&mut first[0..wide], wide);
-    let others = Copies::new(&mut second[0..room.min(ROOM)], wide);
-    trial(
-        bench,
-        subject,
-        Pair::new(one, others),
-        wide,
-        slots.wrapping_add(1),
-    )
-}
-
-// Pages for four snapshots, and copies after them.
-fn with_mixed<M: Machine + Drop, S: Source + Drop>(
-    bench: &mut Bench,
-    subject: Subject<'_, M, S>,
-) -> Result<(), AllocError> {
-    let wide = M::width().min(32);
-    let slots = bench.slots();
-    let room = slots.wrapping_mul(wide);
-    let mut first = [0; ROOM];
-    let mut second = [0; ROOM];
-    let shared = Pages::new(&mut first[0..(wide + 3) / 4 * 16], wide);
-    let others = Copies::new(&mut second[0..room.min(ROOM)], wide);
-    trial(
-        bench,
-        subject,
-        Pair::new(shared, others),
-        wide,
-        slots.wrapping_add(4),
-    )
-}
-
-// A store that no session over the machine can be opened with: too wide, without a slot, of two widths, or of more than 64 slots.
-fn with_unfit<M: Machine + Drop, S: Source + Drop>(
-    bench: &mut Bench,
-    subject: Subject<'_, M, S>,
-) -> Result<(), AllocError> {
-    let wide = M::width().min(32);
-    let mut first = [0; ROOM];
-    let mut second = [0; ROOM];
-    match bench.list % 4 {
-        0 => {
-            let store = Copies::new(&mut first, wide + 1);
-            trial(bench, subject, store, wide + 1, (ROOM / (wide + 1)).min(64))
-        }
-        1 => {
-            let store = Copies::new(&mut first[0..wide.saturating_sub(1)], wide);
-            trial(bench, subject, store, wide, 0)
-        }
-        2 => {
-            let shared = Pages::new(&mut second, wide + 1);
-            trial(
-                bench,
-                subject,
-                Pair::new(Copies::new(&mut first, wide), shared),
-                wide,
-                0,
-            )
-        }
-        _ => {
-            let others = Copies::new(&mut second, wide);
-            trial(
-                bench,
-                subject,
-                Pair::new(Copies::new(&mut first, wide), others),
-                wide,
-                0,
-            )
-        }
-    }
-}
-
-// A store of the kind.
-fn with_store<M: Machine + Drop, S: Source + Drop>(
-    bench: &mut Bench,
-    kind: StoreKind,
-    subject: Subject<'_, M, S>,
-) -> Result<(), AllocError> {
-    match kind {
-        StoreKind::Copies => with_copies(bench, subject),
-        StoreKind::Pages => with_pages(bench, subject),
-        StoreKind::Pair => with_pair(bench, subject),
-        StoreKind::MixedPair => with_mixed(bench, subject),
-        StoreKind::Unfit => with_unfit(bench, subject),
-    }
-}
-
-// A signal; the twin of the machine makes the states.
-fn with_signal<M: Machine + Drop>(
-    bench: &mut Bench,
-    to: StoreKind,
-    machine: M,
-    twin: M,
-) -> anyhow::Result<()> {
-    let total = TOTALS[(bench.list % 4) as usize];
-    let Ok(source) = Signal::new(total) else {
-        return Err(anyhow!("no signal"));
-    };
-    let inputs = signal_inputs(total, bench.heap)?;
-    let states = all_states(twin, inputs.as_slice(), bench.heap)?;
-    with_store(
-        bench,
-        to,
-        Subject {
+    // One list of calls on one session over a store of this width and so many slots.
+    fn trial<M: Machine + Drop, S: Source + Drop, T: Store + Drop>(
+        &mut self,
+        subject: Subject<M, S>,
+        store: T,
+        width: usize,
+        slots: usize,
+    ) -> Result<(), AllocError> {
+        let Subject {
             machine,
             source,
             total,
+            states,
+        } = subject;
+        let shape = Shape {
+            machine: number(M::W),
+            store: number(width),
+            slots: number(slots),
+        };
+        let mut draw = Draw {
+            random: &mut self.random,
+            width: shape.machine,
+            slots: shape.slots,
             states: states.as_slice(),
-        },
-    )?;
-    Ok(())
-}
+        };
+        let calls = draw.calls(DRAWS, self.heap)?;
+        let Outcome {
+            session: _,
+            answers,
+        } = run(machine, source, store, calls.as_slice(), self.heap);
+        let answers = answers?;
+        let mut plain = Plain::new(shape, total, states.as_slice());
+        self.tally
+            .compare(calls.as_slice(), answers.as_slice(), &mut plain)
+    }
 
-// A recording.
-fn with_recording<M: Machine + Drop>(
-    bench: &mut Bench,
-    to: StoreKind,
-    machine: M,
-    twin: M,
-) -> anyhow::Result<()> {
-    let recorded = draw_recording(&mut bench.random, bench.heap)?;
-    let mut source = Reader::new(recorded.words.as_slice());
-    let Ok(()) = source.check() else {
-        return Err(anyhow!("a bad recording"));
-    };
-    let total = number(recorded.inputs.len());
-    let states = all_states(twin, recorded.inputs.as_slice(), bench.heap)?;
-    with_store(
-        bench,
-        to,
-        Subject {
-            machine,
-            source,
-            total,
-            states: states.as_slice(),
-        },
-    )?;
-    Ok(())
-}
+    // A store that no session over the machine can be opened with: too wide, without a slot, of two widths, or of more than 64 slots.
+    fn with_unfit<M: Machine + Drop, S: Source + Drop>(
+        &mut self,
+        subject: Subject<M, S>,
+    ) -> Result<(), AllocError> {
+        let mut first = [0; ROOM];
+        let mut second = [0; ROOM];
+        match self.list % 4 {
+            0 => {
+                let store = Copies::new(&mut first, M::W + 1);
+                self.trial(subject, store, M::W + 1, (ROOM / (M::W + 1)).min(64))
+            }
+            1 => {
+                let store = Copies::new(&mut first[0..M::W - 1], M::W);
+                self.trial(subject, store, M::W, 0)
+            }
+            2 => {
+                let wider = Pages::new(&mut second, M::W + 1);
+                let store = Pair::new(Copies::new(&mut first, M::W), wider);
+                self.trial(subject, store, M::W, 0)
+            }
+            _ => {
+                let others = Copies::new(&mut second, M::W);
+                let store = Pair::new(Copies::new(&mut first, M::W), others);
+                self.trial(subject, store, M::W, 0)
+            }
+        }
+    }
 
-// A source of the kind.
-fn with_source<M: Machine + Drop>(
-    bench: &mut Bench,
-    from: SourceKind,
-    to: StoreKind,
-    machine: M,
-    twin: M,
-) -> anyhow::Result<()> {
-    match from {
-        SourceKind::Signal => with_signal(bench, to, machine, twin),
-        SourceKind::Recording => with_recording(bench, to, machine, twin),
+    // A store of the kind: copies with some words too many, pages, of which there are at most 32 slots, one copy and copies
+    // after it, or pages for four snapshots and copies after them.
+    fn with_store<M: Machine + Drop, S: Source + Drop>(
+        &mut self,
+        kind: StoreKind,
+        subject: Subject<M, S>,
+    ) -> Result<(), AllocError> {
+        let slots = usize::from(SLOTS[(self.list % 9) as usize]);
+        // the pages of a snapshot
+        let pages = M::W.div_ceil(4);
+        let mut first = [0; ROOM];
+        let mut second = [0; ROOM];
+        match kind {
+            StoreKind::Copies => {
+                let store = Copies::new(front(&mut first, slots * M::W + M::W / 2), M::W);
+                self.trial(subject, store, M::W, slots)
+            }
+            StoreKind::Pages => {
+                let store = Pages::new(front(&mut first, slots * pages * 4), M::W);
+                self.trial(subject, store, M::W, slots.min(32))
+            }
+            StoreKind::Pair => {
+                let one = Copies::new(front(&mut first, M::W), M::W);
+                let others = Copies::new(front(&mut second, slots * M::W), M::W);
+                self.trial(subject, Pair::new(one, others), M::W, slots + 1)
+            }
+            StoreKind::MixedPair => {
+                let shared = Pages::new(front(&mut first, pages * 16), M::W);
+                let others = Copies::new(front(&mut second, slots * M::W), M::W);
+                self.trial(subject, Pair::new(shared, others), M::W, slots + 4)
+            }
+            StoreKind::Unfit => self.with_unfit(subject),
+        }
+    }
+
+    // A source of the kind; the twin of the machine makes the states.
+    fn with_source<M: Machine + Drop>(
+        &mut self,
+        kinds: Combination,
+        machine: M,
+        twin: M,
+    ) -> anyhow::Result<()> {
+        let heap = self.heap;
+        match kinds.source {
+            SourceKind::Signal => {
+                let total = TOTALS[(self.list % 4) as usize];
+                let inputs = signal_inputs(total, heap)?;
+                let subject = Subject {
+                    machine,
+                    source: Signal::new(total)?,
+                    total,
+                    states: all_states(twin, inputs.as_slice(), heap)?,
+                };
+                self.with_store(kinds.store, subject)?;
+            }
+            SourceKind::Recording => {
+                let recorded = draw_recording(&mut self.random, heap)?;
+                let mut source = Reader::new(recorded.words.as_slice());
+                source.check()?;
+                let subject = Subject {
+                    machine,
+                    source,
+                    total: number(recorded.inputs.len()),
+                    states: all_states(twin, recorded.inputs.as_slice(), heap)?,
+                };
+                self.with_store(kinds.store, subject)?;
+            }
+        }
+        Ok(())
+    }
+
+    // One list over a machine of the kind, which is made twice alike.
+    fn with_machine(&mut self, kinds: Combination) -> anyhow::Result<()> {
+        let seed = self.random.word();
+        match kinds.machine {
+            MachineKind::Row => self.with_source(kinds, make_row(seed)?, make_row(seed)?),
+            MachineKind::CountedRow => {
+                let machine = Counter::new(make_row(seed)?);
+                self.with_source(kinds, machine, Counter::new(make_row(seed)?))
+            }
+            MachineKind::Tape => self.with_source(kinds, make_tape(seed)?, make_tape(seed)?),
+        }
     }
 }
 
-// One list over a machine of the kind, which is made twice alike.
-fn with_machine(
-    bench: &mut Bench,
-    kind: MachineKind,
-    from: SourceKind,
-    to: StoreKind,
-) -> anyhow::Result<()> {
-    let seed = bench.random.word();
-    match kind {
-        MachineKind::Row => with_source(bench, from, to, make_row(seed)?, make_row(seed)?),
-        MachineKind::CountedRow => with_source(
-            bench,
-            from,
-            to,
-            Counter::new(make_row(seed)?),
-            Counter::new(make_row(seed)?),
-        ),
-        MachineKind::Tape => with_source(bench, from, to, make_tape(seed)?, make_tape(seed)?),
-    }
-}
-
-// All lists of a combination; answers the disagreements.
-fn combination(
-    rt: &HostRuntime,
-    name: &str,
-    seed: u32,
-    kind: MachineKind,
-    from: SourceKind,
-    to: StoreKind,
-) -> anyhow::Result<u32> {
+// The tally of all lists of a combination.
+fn run_lists(heap: Global, seed: u32, kinds: Combination) -> anyhow::Result<Tally> {
     let mut bench = Bench {
-        heap: rt.alloc(),
+        heap,
         random: Random(seed),
-        tally: Tally::new(),
+        tally: Tally::new(heap),
         list: 0,
     };
     for list in 0..LISTS {
         bench.list = list;
-        with_machine(&mut bench, kind, from, to)?;
+        bench.with_machine(kinds)?;
     }
-    bench.tally.tell(rt, name)?;
-    Ok(bench.tally.wrong)
+    let Bench { tally, .. } = bench;
+    Ok(tally)
 }
 
-// All combinations of a machine and a source.
-fn stores(
-    rt: &HostRuntime,
-    machine: (MachineKind, &str),
-    source: (SourceKind, &str),
-    seeds: &mut Random,
-) -> anyhow::Result<u32> {
-    let (kind, machine) = machine;
-    let (from, source) = source;
-    let mut wrong: u32 = 0;
-    for (to, store) in STORES {
-        let name = format!(in rt.alloc(); "{machine}, {source}, {store}")?;
-        wrong = wrong.wrapping_add(combination(rt, name.as_str(), seeds.word(), kind, from, to)?);
-    }
-    Ok(wrong)
-}
-
-fn all(rt: &HostRuntime) -> anyhow::Result<()> {
+fn run_all(rt: &HostRuntime) -> anyhow::Result<()> {
     let mut seeds = Random(1);
-    let mut wrong: u32 = 0;
-    for machine in MACHINES {
-        for source in SOURCES {
-            wrong = wrong.wrapping_add(stores(rt, machine, source, &mut seeds)?);
+    let mut wrong: usize = 0;
+    for (machine, machine_name) in MACHINES {
+        for (source, source_name) in SOURCES {
+            for (store, store_name) in STORES {
+                let kinds = Combination {
+                    machine,
+                    source,
+                    store,
+                };
+                let tally = run_lists(rt.alloc(), seeds.word(), kinds)?;
+                println!(rt; "{machine_name}, {source_name}, {store_name}: {tally}")?;
+                wrong = wrong.wrapping_add(tally.wrong);
+            }
         }
     }
     println!(rt; "disagreements {wrong}")?;
@@ -405,5 +295,5 @@ fn all(rt: &HostRuntime) -> anyhow::Result<()> {
 }
 
 fn main(rt: HostRuntime) -> anyhow::Result<()> {
-    all(&rt)
+    run_all(&rt)
 }

@@ -2,14 +2,14 @@
 #![tactic(auto)]
 
 use copies::Copies;
-use machine::Machine;
+use machine::{Machine, snapshot};
 use pages::Pages;
 use row::Row;
 use std::io;
 use store::{Pair, Store};
 
 // The words of a row's state.
-const WIDTH: usize = 8;
+const WIDTH: usize = Row::W;
 
 // Puts the row's state into a slot, and says what the store answered.
 fn keep<S: Store>(
@@ -19,24 +19,16 @@ fn keep<S: Store>(
     slot: usize,
     scan: u32,
 ) -> io::Result<()> {
-    let mut state = [0; WIDTH];
-    let _ = row.save(&mut state);
-    match store.put(slot, &state) {
+    match store.put(slot, &snapshot(row)[..WIDTH]) {
         Ok(()) => println!(rt; "  scan {scan} into slot {slot}"),
-        Err(refusal) => {
-            let number = refusal.number();
-            println!(rt; "  scan {scan} into slot {slot}: refused, {number}")
-        }
+        Err(refusal) => println!(rt; "  scan {scan} into slot {slot}: refused, {refusal}"),
     }
 }
 
 fn release<S: Store>(rt: &impl Print, store: &mut S, slot: usize) -> io::Result<()> {
     match store.free(slot) {
         Ok(()) => println!(rt; "  slot {slot} freed"),
-        Err(refusal) => {
-            let number = refusal.number();
-            println!(rt; "  slot {slot} freed: refused, {number}")
-        }
+        Err(refusal) => println!(rt; "  slot {slot} freed: refused, {refusal}"),
     }
 }
 
@@ -48,16 +40,13 @@ fn show_words(rt: &impl Print, slot: usize, words: &[u32]) -> io::Result<()> {
     println!(rt; "")
 }
 
-// Each slot's snapshot, read back.
+// Each slot's snapshot, read back; slots have numbers alone, no list stands behind them.
 fn show<S: Store>(rt: &impl Print, store: &mut S) -> io::Result<()> {
     for slot in 0..store.capacity() {
         let mut state = [0; WIDTH];
         match store.get(slot, &mut state) {
             Ok(()) => show_words(rt, slot, &state)?,
-            Err(refusal) => {
-                let number = refusal.number();
-                println!(rt; "  {slot}: refused, {number}")?
-            }
+            Err(refusal) => println!(rt; "  {slot}: refused, {refusal}")?,
         }
     }
     Ok(())
@@ -65,8 +54,8 @@ fn show<S: Store>(rt: &impl Print, store: &mut S) -> io::Result<()> {
 
 // Scans 0 to 3 into slots 0 to 3, slot 1 freed, slot 2 overwritten with scan 4, and a slot that is not there.
 fn fill<S: Store>(rt: &impl Print, store: &mut S, row: &mut Row) -> io::Result<()> {
-    for scan in 0..4u32 {
-        keep(rt, store, row, scan as usize, scan)?;
+    for (slot, scan) in (0..4).enumerate() {
+        keep(rt, store, row, slot, scan)?;
         row.step(0);
     }
     release(rt, store, 1)?;
@@ -104,10 +93,8 @@ fn pair(rt: &impl Print, row: &mut Row) -> io::Result<()> {
 }
 
 fn main(rt: HostRuntime) -> io::Result<()> {
-    let Ok(mut row) = Row::new(90) else {
-        return Ok(());
-    };
-    let _ = row.set_cell(60, 1);
+    let mut row = Row::new(90).unwrap();
+    row.set_cell(60, 1).unwrap();
     copies(&rt, &mut row)?;
     pages(&rt, &mut row)?;
     pair(&rt, &mut row)

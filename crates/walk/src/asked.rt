@@ -1,12 +1,11 @@
 // The command line: which machine, which source, which store, how many slots, and what to seek.
+use std::slice;
+use thiserror::Error;
 use viewer::Watch;
 
-// How the program is called.
-pub const USAGE: &str =
-    "usage: walk row RULE CELL|none | tape TABLE, then signal N | recording FILE, then copies|pages|pair SLOTS, then nothing | equal WORD MASK VALUE | ones WORD N";
-
-// A command line that is not as `USAGE` tells.
-#[derive(Clone, Copy)]
+// A command line that is not as the usage tells, which is what is printed of it.
+#[derive(Clone, Copy, Debug, Error)]
+#[error("usage: walk row RULE CELL|none | tape TABLE, then signal N | recording FILE, then copies|pages|pair SLOTS, then nothing | equal WORD MASK VALUE | ones WORD N")]
 pub struct Misused;
 
 // The machine to run: a row with at most one start cell, or a tape by its table's file.
@@ -40,95 +39,88 @@ pub struct Request<'a> {
     pub watch: Option<Watch>,
 }
 
-fn number(text: &str) -> Result<u32, Misused> {
-    match text.parse::<u32>() {
-        Ok(n) => Ok(n),
-        Err(_) => Err(Misused),
+// The words of a command line that are still to be read.
+#[derive(Drop)]
+struct Words<'a>(slice::Iter<'a, String>);
+
+impl<'a> Words<'a> {
+    fn text(&mut self) -> Result<&'a str, Misused> {
+        self.0.next().map(|word| word.as_str()).ok_or(Misused)
     }
-}
 
-fn word_at<'a>(args: &'a [String], at: usize) -> Result<&'a str, Misused> {
-    match args.get(at) {
-        Some(text) => Ok(text.as_str()),
-        None => Err(Misused),
+    fn number(&mut self) -> Result<u32, Misused> {
+        number(self.text()?)
     }
-}
 
-fn number_at(args: &[String], at: usize) -> Result<u32, Misused> {
-    number(word_at(args, at)?)
-}
-
-// The machine, and where the source's words begin.
-fn kind_of<'a>(args: &'a [String]) -> Result<(Kind<'a>, usize), Misused> {
-    match word_at(args, 1)? {
-        "row" => {
-            let rule = number_at(args, 2)?;
-            let cell = match word_at(args, 3)? {
-                "none" => None,
-                text => Some(number(text)?),
-            };
-            Ok((Kind::Row { rule, cell }, 4))
+    fn kind(&mut self) -> Result<Kind<'a>, Misused> {
+        match self.text()? {
+            "row" => {
+                let rule = self.number()?;
+                let cell = match self.text()? {
+                    "none" => None,
+                    cell => Some(number(cell)?),
+                };
+                Ok(Kind::Row { rule, cell })
+            }
+            "tape" => Ok(Kind::Tape {
+                table: self.text()?,
+            }),
+            _ => Err(Misused),
         }
-        "tape" => Ok((
-            Kind::Tape {
-                table: word_at(args, 2)?,
-            },
-            3,
-        )),
-        _ => Err(Misused),
+    }
+
+    fn feed(&mut self) -> Result<Feed<'a>, Misused> {
+        match self.text()? {
+            "signal" => Ok(Feed::Signal(self.number()?)),
+            "recording" => Ok(Feed::Recording(self.text()?)),
+            _ => Err(Misused),
+        }
+    }
+
+    fn keep(&mut self) -> Result<Keep, Misused> {
+        match self.text()? {
+            "copies" => Ok(Keep::Copies),
+            "pages" => Ok(Keep::Pages),
+            "pair" => Ok(Keep::Pair),
+            _ => Err(Misused),
+        }
+    }
+
+    // What to seek, or nothing at the end of the words.
+    fn watch(&mut self) -> Result<Option<Watch>, Misused> {
+        let Some(kind) = self.0.next() else {
+            return Ok(None);
+        };
+        let word = self.number()?;
+        let second = self.number()?;
+        match kind.as_str() {
+            "equal" => Ok(Some(Watch::Equal {
+                word,
+                mask: second,
+                value: self.number()?,
+            })),
+            "ones" => Ok(Some(Watch::Ones {
+                word,
+                least: second,
+            })),
+            _ => Err(Misused),
+        }
     }
 }
 
-fn feed_of<'a>(args: &'a [String], at: usize) -> Result<Feed<'a>, Misused> {
-    match word_at(args, at)? {
-        "signal" => Ok(Feed::Signal(number_at(args, at.saturating_add(1))?)),
-        "recording" => Ok(Feed::Recording(word_at(args, at.saturating_add(1))?)),
-        _ => Err(Misused),
-    }
-}
-
-fn keep_of(text: &str) -> Result<Keep, Misused> {
-    match text {
-        "copies" => Ok(Keep::Copies),
-        "pages" => Ok(Keep::Pages),
-        "pair" => Ok(Keep::Pair),
-        _ => Err(Misused),
-    }
-}
-
-fn watch_of(args: &[String], at: usize) -> Result<Option<Watch>, Misused> {
-    if at >= args.len() {
-        return Ok(None);
-    }
-    let word = number_at(args, at.saturating_add(1))?;
-    let second = number_at(args, at.saturating_add(2))?;
-    match word_at(args, at)? {
-        "equal" => Ok(Some(Watch::Equal {
-            word,
-            mask: second,
-            value: number_at(args, at.saturating_add(3))?,
-        })),
-        "ones" => Ok(Some(Watch::Ones {
-            word,
-            least: second,
-        })),
-        _ => Err(Misused),
-    }
+fn number(text: &str) -> Result<u32, Misused> {
+    text.parse().map_err(|_| Misused)
 }
 
 // The words of a command line, the program's own name first.
-pub(crate) fn read_request<'a>(args: &'a [String]) -> Result<Request<'a>, Misused> {
-    let (kind, at) = kind_of(args)?;
-    let feed = feed_of(args, at)?;
-    let at = at.saturating_add(2);
-    let keep = keep_of(word_at(args, at)?)?;
-    let slots = number_at(args, at.saturating_add(1))?;
-    let watch = watch_of(args, at.saturating_add(2))?;
+pub(crate) fn read_request(args: &[String]) -> Result<Request<'_>, Misused> {
+    let mut words = Words(args.iter());
+    let _name = words.text()?;
     Ok(Request {
-        kind,
-        feed,
-        keep,
-        slots,
-        watch,
+        kind: words.kind()?,
+        feed: words.feed()?,
+        keep: words.keep()?,
+        slots: words.number()?,
+        watch: words.watch()?,
     })
 }

@@ -5,23 +5,24 @@ mod asked;
 mod made;
 mod printed;
 
-use asked::{USAGE, read_request};
-use made::walk_machine;
+use asked::read_request;
+use made::walk;
 use std::env;
 use std::process::ExitCode;
 
 fn walked(rt: &HostRuntime) -> anyhow::Result<ExitCode> {
-    let mut args = Vec::new(rt.alloc());
-    for arg in env::args(rt)? {
-        args.push(arg)?;
+    let args: Vec<String> = env::args(rt)?.collect(rt.alloc())?;
+    match read_request(args.as_slice()) {
+        Ok(ask) => {
+            walk(rt, &ask)?;
+            Ok(ExitCode::SUCCESS)
+        }
+        // the usage is longer than an error of anyhow keeps
+        Err(misused) => {
+            eprintln!(rt; "Error: {misused}")?;
+            Ok(ExitCode::FAILURE)
+        }
     }
-    // the usage is longer than an error of anyhow keeps
-    let Ok(ask) = read_request(args.as_slice()) else {
-        eprintln!(rt; "Error: {USAGE}")?;
-        return Ok(ExitCode::FAILURE);
-    };
-    walk_machine(rt, &ask)?;
-    Ok(ExitCode::SUCCESS)
 }
 
 fn main(rt: HostRuntime) -> anyhow::Result<ExitCode> {
