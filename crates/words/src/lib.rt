@@ -72,6 +72,7 @@ fn word_of(piece: &[u8]) -> Option<u32>
 }
 
 // A piece behind the words before it; an empty one adds nothing.
+// As in recordtext, and no plainer as one function: blanks, limits, the 0x and the fault's place differ.
 fn add(words: &mut Vec<u32>, piece: &[u8]) -> Result<(), Fault>
     requires { vec_len words.old < 2 ^ 32 }
     ensures value { Adds (added words.old.items piece.now) words.new.items result }

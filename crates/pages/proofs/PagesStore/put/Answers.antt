@@ -45,5 +45,3 @@ returns-clause-spared c =
     (put_from c.args.self.now.rows c.args.words.now c.args.self.now.words.now c.lay-row.result c.lay-row.new.pool c.args.self.now.width c.args.slot c.capacity-slots.result c.pages_in-pages.result
     fitting c.pages_in-pages.ensures c.in_ok-may_put.ensures.there (omega (arith, few, fitting)) c.in_ok-may_put.ensures.whole (search rules) c.args.self.now.tidy c.lay-row.ensures)
 
-pub returns-clause-rest : goal.returns-clause-rest
-returns-clause-rest c = rest_same c.args.self.now.words.now c.lay-row.new.pool c.lay-row.ensures.stays.size c.lay-row.ensures.stays.behind
