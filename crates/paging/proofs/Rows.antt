@@ -1,13 +1,13 @@
 -- The slots after a row is taken away or noted.
-use Rattle.std.proofs.Common.{◌≡◌, ℕ, zero, suc, ◌+◌, ◌-◌, ◌*◌, ◌/◌, ◌%◌, ◌<◌, ◌≤◌, true, ◌⊎◌, Option, None, Some, List, [], ◌∷◌, ◌++◌, map, length, get_or, take, drop, set, replicate, sym, refl, ap, ◌∙◌, subst, inl, inr, ⊎_elim, arith, length-drop, length-append}
+use Rattle.std.proofs.Common.{◌≡◌, ℕ, zero, suc, ◌+◌, ◌*◌, ◌/◌, ◌%◌, ◌<◌, ◌≤◌, true, ◌⊎◌, Option, None, Some, List, [], ◌∷◌, ◌++◌, map, length, get_or, take, set, replicate, sym, refl, ap, ◌∙◌, subst, inl, inr, ⊎_elim, arith, length-append}
 use Rattle.std.proofs.lemmas.List.FromFn.{length-map-range_with_len}
-use Rattle.std.proofs.lemmas.List.{ext_get_or, get_or_past, get_or-drop, get_or-take, get_or-set_same, get_or-set_other, map-set, set-set, length-set, length-take-le}
+use Rattle.std.proofs.lemmas.List.{get_or_past, get_or-take, get_or-set_same, get_or-set_other, map-set, set-set, length-set, length-take-le}
 use Rattle.std.proofs.Math.Seq.{take-set-lt}
 use Rattle.std.proofs.lemmas.Bool.{cases_eq, cases_lt}
 use Rattle.store.specs.Slots.{empty, held}
 use Rattle.paging.specs.Layout.{pages_in, count, roomy, whole}
 use Rattle.paging.specs.Pages.{at, page, numbers, shot, slot_of, slots_of, named, has, Kept, Tidy, TidyAll, Spared}
-use Rattle.paging.specs.Steps.{StaysBehind, Laid}
+use Rattle.paging.specs.Steps.{Laid}
 use Rattle.paging.proofs.Numbers.{has_left, has_right, has_append, counted_same, counted_is, numbers_taken, numbers_at}
 use Rattle.paging.proofs.Placing.{kept_fewer}
 
@@ -241,12 +241,3 @@ put_spared rows words pool row pool' width slot put j h ne =
           (named_at (pages_in width) (take (count width (length pool)) (set rows slot None)) j r i
           (get_or-take (count width (length pool)) (set rows slot None) j None h ∙ o ∙ e) k)),
     )
-
--- the words behind the whole pages
-pub rest_same : (pool pool' : List ℕ) → length pool' ≡ length pool → StaysBehind pool pool'
-    → drop (4 * whole (length pool')) pool' ≡ drop (4 * whole (length pool)) pool
-rest_same pool pool' e b =
-    let n = 4 * whole (length pool) in
-    ap (λ m. drop (4 * whole m) pool') e ∙
-    ext_get_or 0 (drop n pool') (drop n pool) (length-drop n pool' ∙ ap (λ m. m - n) e ∙ sym (length-drop n pool))
-    (λ i h. get_or-drop n pool' i 0 ∙ b (n + i) (omega arith) ∙ sym (get_or-drop n pool i 0))

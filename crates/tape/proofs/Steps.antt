@@ -1,5 +1,5 @@
 -- One scan on words and on configurations, and what it leaves as it was.
-use Rattle.std.proofs.Common.{◌≡◌, ℕ, ◌+◌, ◌*◌, ◌/◌, ◌%◌, ◌<◌, ◌≤◌, true, List, length, get_or, drop, Some, None, Option, sym, refl, ap, ◌∙◌, subst, arith}
+use Rattle.std.proofs.Common.{◌≡◌, ℕ, ◌+◌, ◌*◌, ◌/◌, ◌%◌, ◌≤◌, true, List, length, get_or, drop, Some, None, Option, sym, refl, ap, ◌∙◌, subst, arith}
 use Rattle.machine.specs.Machines.{address}
 use Rattle.std.proofs.lemmas.List.{get_or-set_other, length-drop, get_or-drop}
 use Rattle.std.proofs.lemmas.Bool.{lt-ltb}
@@ -11,7 +11,7 @@ use Rattle.tape.specs.declared.tape.memory.Memory.{Memory}
 use Rattle.tape.specs.Layout.{wide, configuration, words, lawful}
 use Rattle.tape.specs.Locality.{Local, Near, Located}
 use Rattle.tape.specs.Tables.{taken, sound, small}
-use Rattle.tape.specs.Turing.{Configuration, edge, marked, acted, fed, scan}
+use Rattle.tape.specs.Turing.{Configuration, edge, acted, fed, scan}
 use Rattle.tape.specs.declared.entry.Entry.{Entry}
 use Rattle.tape.specs.declared.entry.Move.{Move}
 use Rattle.tape.specs.declared.entry.Move.TheVariants.{Left, Right, Stay}
@@ -33,10 +33,6 @@ pub next_lawful : (t : Tape) (i : ℕ) (m : Memory) → configuration m.words �
 next_lawful t i m e =
     let P : List ℕ → Type 0 = λ x. lawful t.count x ≡ true in
     subst P (sym (held_words m (scan t.entries i (configuration t.memory.words)) e)) (goes_by t.count t.entries t.few t.good t.memory.words i t.law)
-
--- and so is one that holds a configuration with one symbol replaced
-pub marked_lawful : (t : Tape) (cell symbol : ℕ) (m : Memory) → symbol < 4 → configuration m.words ≡ marked cell symbol (configuration t.memory.words) → lawful t.count m.words ≡ true
-marked_lawful t cell symbol m small e = grind arith
 
 module _ (table : List (Option Entry)) (i : ℕ) where
   fed_local : (c : Configuration) (k : ℕ) → (k + 1 ≡ address i → ⊥) → get_or (fed i c).cells k 0 ≡ get_or c.cells k 0

@@ -1,14 +1,9 @@
-use Rattle.std.proofs.Common.{◌≡◌, ℕ, ◌+◌, ◌<◌, List, length, vec_len, vec_capacity, ap, ◌∙◌, arith}
+use Rattle.std.proofs.Common.{◌≡◌, ℕ, ◌+◌, ◌<◌, List, length, ap, ◌∙◌, arith}
 use Rattle.source.specs.Scans.{Sample, inputs}
 use Rattle.rerun.specs.Runs.{at}
 use Rattle.rerun.proofs.Walking.{walks_on}
-use Rattle.rerun.proofs.Telling.{told_more, room_more, length_more}
+use Rattle.rerun.proofs.Telling.{told_more, length_more}
 use Rattle.rerun.proofs.replay_states.Goals as goal
-
-pub tell-requires : goal.tell-requires
-tell-requires g c =
-    room_more c.loop-scan._scan c.total-total.result g.M.Machine.W (vec_len c.loop-scan.states) (vec_capacity c.loop-scan.states)
-    c.loop-scan-test.true c.loop-scan.invariant.5 c.loop-scan.invariant.6
 
 pub loop-scan-preserved : goal.loop-scan-preserved
 loop-scan-preserved g c =

@@ -1,7 +1,7 @@
 use Rattle.std.proofs.Common.{length, ◌∙◌, arith, rules}
 use Rattle.paging.specs.Layout.{count_few}
 use Rattle.paging.specs.Pages.{slots_of}
-use Rattle.paging.proofs.Rows.{put_from, put_kept, put_room, put_tidy, put_slots, put_spared, rest_same}
+use Rattle.paging.proofs.Rows.{put_from, put_kept, put_room, put_tidy, put_slots, put_spared}
 use Rattle.store.proofs.Refused.{done_put}
 use Rattle.pages.proofs.PagesStore.put.Goals as goal
 
@@ -44,4 +44,3 @@ returns-clause-spared c =
     put_spared c.args.self.now.rows c.args.words.now c.args.self.now.words.now c.lay-row.result c.lay-row.new.pool c.args.self.now.width c.args.slot
     (put_from c.args.self.now.rows c.args.words.now c.args.self.now.words.now c.lay-row.result c.lay-row.new.pool c.args.self.now.width c.args.slot c.capacity-slots.result c.pages_in-pages.result
     fitting c.pages_in-pages.ensures c.in_ok-may_put.ensures.there (omega (arith, few, fitting)) c.in_ok-may_put.ensures.whole (search rules) c.args.self.now.tidy c.lay-row.ensures)
-
