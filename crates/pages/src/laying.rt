@@ -53,11 +53,10 @@ fn place(used: &Used, pool: &mut [u32], content: &[u32; PAGE]) -> u16
     requires few { whole (length pool.old) ≤ 1024 }
     ensures { Placed (in_use used.now) content.now pool.old result pool.new }
 {
-    let whole = (pool.len() / PAGE) as u16;
-    match used.find(pool, whole, content) {
+    match used.find(pool, content) {
         Some(known) => known,
         None => {
-            let number = used.free(whole).unwrap();
+            let number = used.free((pool.len() / PAGE) as u16).unwrap();
             write(pool, number, content);
             number
         }

@@ -85,7 +85,7 @@ impl<'a> Pages<'a> {
             pages: pages_in(self.width),
             laid: &[],
         };
-        used.count((self.words.len() / PAGE) as u16)
+        used.count()
     }
 
     /// The whole pages of the pool that are not used.

@@ -1,9 +1,9 @@
 // The numbers of the pages in use.
-ghost use Rattle.std.specs.Prelude.{◌≡◌, ◌≤◌, not};
-ghost use Rattle.std.specs.List.{count_by, find, list_any, range_with_len};
-ghost use Rattle.paging.specs.Pages.{page, numbers, has, slot_names, same as same_page};
+ghost use Rattle.std.specs.Prelude.{◌≡◌, ◌+◌, ◌<◌, ◌≤◌, ◌++◌, not, length, drop, slice_index};
+ghost use Rattle.std.specs.List.{find, list_any, range_with_len};
+ghost use Rattle.paging.specs.Pages.{page, numbers, named, has, distinct, slot_names, same as same_page};
 
-use crate::laying::{PAGE, page};
+use crate::laying::{PAGE, word};
 
 // The numbers of a snapshot's pages; page k of the pool has the number k.
 pub(crate) type Row = [u16; 8];
@@ -21,11 +21,22 @@ pub(crate) struct Used<'r> {
 fn same(pool: &[u32], k: u16, content: &[u32; PAGE]) -> bool
     ensures { result ≡ same_page (page pool.now k) content.now }
 {
-    page(pool, usize::from(k)) == *content
+    let start = PAGE * usize::from(k);
+    word(pool, start) == content[0]
+        && word(pool, start + 1) == content[1]
+        && word(pool, start + 2) == content[2]
+        && word(pool, start + 3) == content[3]
+}
+
+// The first of these numbers whose page has these words.
+fn among(numbers: &[u16], pool: &[u32], content: &[u32; PAGE]) -> Option<u16>
+    ensures { result ≡ find (λ k. same_page (page pool.now k) content.now) numbers.now }
+{
+    numbers.iter().copied().find(|k| same(pool, *k, content))
 }
 
 impl Used<'_> {
-    ghost use Rattle.pages.specs.Used.{in_use, serves};
+    ghost use Rattle.pages.specs.Used.{in_use};
 
     // Whether a row names page k.
     fn names(&self, row: &Row, k: u16) -> bool
@@ -52,11 +63,25 @@ impl Used<'_> {
         self.one_names(k) || self.laid.contains(&k)
     }
 
-    // The number of a page in use that has these words.
-    pub(crate) fn find(&self, pool: &[u32], whole: u16, content: &[u32; PAGE]) -> Option<u16>
-        ensures { result ≡ find (serves pool.now content.now (in_use self.now)) (range_with_len 0 whole) }
+    // The first page that a row names which has these words.
+    fn find_in(&self, row: &Row, pool: &[u32], content: &[u32; PAGE]) -> Option<u16>
+        ensures { result ≡ find (λ k. same_page (page pool.now k) content.now) (numbers self.now.pages row.now) }
     {
-        (0..whole).find(|k| same(pool, *k, content) && self.has(*k))
+        among(&row[..self.pages], pool, content)
+    }
+
+    // The first page in use that has these words.
+    pub(crate) fn find(&self, pool: &[u32], content: &[u32; PAGE]) -> Option<u16>
+        ensures { result ≡ find (λ k. same_page (page pool.now k) content.now) (in_use self.now) }
+    {
+        for slot in self.rows {
+            if let Some(row) = slot {
+                if let Some(known) = self.find_in(row, pool, content) {
+                    return Some(known);
+                }
+            }
+        }
+        among(self.laid, pool, content)
     }
 
     // The number of the first page that is not in use.
@@ -66,10 +91,44 @@ impl Used<'_> {
         (0..whole).find(|k| !self.has(*k))
     }
 
-    // How many pages are in use.
-    pub(crate) fn count(&self, whole: u16) -> usize
-        ensures { result ≡ count_by (has (in_use self.now)) (range_with_len 0 whole) }
+    // Whether number i of a row stands later in it too, or is in use.
+    fn has_later(&self, row: &Row, i: usize) -> bool
+        requires { i < self.now.pages }
+        ensures { result ≡ has (drop (i + 1) (numbers self.now.pages row.now) ++ in_use self.now) (slice_index row.now i) }
     {
-        (0..whole).filter(|k| self.has(*k)).count()
+        row[i + 1..self.pages].contains(&row[i]) || self.has(row[i])
+    }
+
+    // How many numbers of a row stand neither later in it nor among those in use.
+    fn last_in(&self, row: &Row) -> usize
+        ensures few { result ≤ 8 }
+        ensures value { result + distinct (in_use self.now) ≡ distinct (numbers self.now.pages row.now ++ in_use self.now) }
+    {
+        let mut count = 0;
+        for i in 0..self.pages {
+            if !self.has_later(row, i) {
+                count += 1;
+            }
+        }
+        count
+    }
+
+    // How many pages the rows name.
+    pub(crate) fn count(&self) -> usize
+        requires { length self.now.rows.now ≤ 32 }
+        ensures { result ≡ distinct (named self.now.pages self.now.rows.now) }
+    {
+        let mut count = 0;
+        for (j, slot) in self.rows.iter().enumerate() {
+            if let Some(row) = slot {
+                let later = Used {
+                    rows: &self.rows[j + 1..],
+                    pages: self.pages,
+                    laid: &[],
+                };
+                count += later.last_in(row);
+            }
+        }
+        count
     }
 }

@@ -1,18 +1,14 @@
 -- There are as many different pages as pages in use.
-use Rattle.std.proofs.Common.{◌≡◌, ℕ, zero, suc, ◌+◌, ◌*◌, ◌/◌, ◌%◌, ◌<◌, ◌≤◌, Bool, true, false, cond, ◌||◌, ◌==◌, Option, None, Some, List, [], ◌∷◌, ◌++◌, map, length, get_or, take, sym, refl, ap, ◌∙◌, subst, ⊎_elim, arith}
-use Rattle.std.specs.List.{range_with_len, count_by}
+use Rattle.std.proofs.Common.{◌≡◌, ℕ, zero, suc, ◌+◌, ◌-◌, ◌*◌, ◌/◌, ◌%◌, ◌<◌, ◌≤◌, Bool, true, false, cond, ◌||◌, ◌==◌, Option, None, Some, List, [], ◌∷◌, ◌++◌, map, length, get_or, take, drop, sym, refl, ap, ◌∙◌, subst, ⊎_elim, arith}
+use Rattle.std.specs.List.{range_with_len, count_by, slice_range}
 use Rattle.std.proofs.lemmas.List.FromFn.{length-map-range_with_len, get_or-map-range_with_len}
 use Rattle.std.proofs.lemmas.List.Sums.{sum_by-cons}
-use Rattle.std.proofs.lemmas.List.{append-nil, get_or_past, map-append}
+use Rattle.std.proofs.lemmas.List.{append-nil, get_or_past, map-append, drop_more, drop_all, drop-take}
+use Rattle.std.proofs.lemmas.List.Folds.{list_any-append}
 use Rattle.std.proofs.lemmas.Bool.{ne_eqb, eq-eqb, eqb-true, cases_eq, cases_lt}
 use Rattle.paging.specs.Layout.{pages_in, count, whole}
-use Rattle.paging.specs.Pages.{at, page, numbers, shot, slot_of, named, has, TidyAll, cut, pages_of, same, among, different, used}
-use Rattle.paging.proofs.Numbers.{has_right, counted_same, same_self, same_equal}
-
--- how many different numbers there are
-abbrev distinct : List ℕ → ℕ
-distinct [] = 0
-distinct (k ∷ ks) = cond (has ks k) 0 1 + distinct ks
+use Rattle.paging.specs.Pages.{at, page, numbers, shot, slot_of, named, has, distinct, TidyAll, cut, pages_of, same, among, different, used}
+use Rattle.paging.proofs.Numbers.{has_right, counted_same, numbers_taken, same_self, same_equal}
 
 bool_equal : (a b : Bool) → (a ≡ true → b ≡ true) → (b ≡ true → a ≡ true) → a ≡ b
 bool_equal true b f g = sym (f refl)
@@ -127,16 +123,56 @@ held_pages pool width p (Some row ∷ rows) h =
     sym (map-append (page pool) (numbers p row) (named p rows))
 
 -- the different pages of tidy rows are the pages that they name
+used_named : (rows : List (Option (List ℕ))) (pool : List ℕ) (width : ℕ) → TidyAll rows pool width
+    → used rows pool width ≡ distinct (named (pages_in width) (take (count width (length pool)) rows))
+used_named rows pool width tidy =
+    let rs = take (count width (length pool)) rows in
+    ap different (held_pages pool width (pages_in width) rs tidy.padded) ∙ different_distinct pool (named (pages_in width) rs) tidy.kept.shared
+
 pub used_counted : (rows : List (Option (List ℕ))) (pool : List ℕ) (width : ℕ) → TidyAll rows pool width
     → used rows pool width ≡ count_by (has (named (pages_in width) (take (count width (length pool)) rows))) (range_with_len 0 (whole (length pool)))
 used_counted rows pool width tidy =
-    let rs = take (count width (length pool)) rows in
-    ap different (held_pages pool width (pages_in width) rs tidy.padded) ∙
-    different_distinct pool (named (pages_in width) rs) tidy.kept.shared ∙
-    distinct_counted (named (pages_in width) rs) (whole (length pool)) tidy.kept.inside
+    used_named rows pool width tidy ∙ distinct_counted (named (pages_in width) (take (count width (length pool)) rows)) (whole (length pool)) tidy.kept.inside
 
 pub count_used : (rows : List (Option (List ℕ))) (pool : List ℕ) (width n p : ℕ) → n ≡ count width (length pool) → p ≡ pages_in width → TidyAll rows pool width
-    → count_by (has (named p (take n rows) ++ [])) (range_with_len 0 (whole (length pool))) ≡ used rows pool width
+    → distinct (named p (take n rows)) ≡ used rows pool width
 count_used rows pool width n p e f tidy =
-    ap (λ l. count_by (has l) (range_with_len 0 (whole (length pool)))) (append-nil (named p (take n rows)) ∙ ap (λ m. named p (take m rows)) e ∙ ap (λ q. named q (take (count width (length pool)) rows)) f) ∙
-    sym (used_counted rows pool width tidy)
+    ap (λ m. distinct (named p (take m rows))) e ∙ ap (λ q. distinct (named q (take (count width (length pool)) rows))) f ∙ sym (used_named rows pool width tidy)
+
+-- the numbers of rows counted row by row
+pub counted_past : (p : ℕ) (rows : List (Option (List ℕ))) (i : ℕ) → i < length rows → get_or rows i None ≡ None → distinct (named p (drop i rows)) ≡ distinct (named p (drop (i + 1) rows))
+counted_past p rows i lt e = ap (λ l. distinct (named p l)) (drop_more rows i None lt) ∙ ap (λ s. distinct (named p (s ∷ drop (i + 1) rows))) e
+
+pub counted_row : (p : ℕ) (rows : List (Option (List ℕ))) (i : ℕ) (row : List ℕ) (n : ℕ) → i < length rows → get_or rows i None ≡ Some row
+    → n + distinct (named p (drop (i + 1) rows) ++ []) ≡ distinct (numbers p row ++ (named p (drop (i + 1) rows) ++ []))
+    → n + distinct (named p (drop (i + 1) rows)) ≡ distinct (named p (drop i rows))
+counted_row p rows i row n lt e h =
+    ap (λ l. n + distinct l) (sym (append-nil (named p (drop (i + 1) rows)))) ∙ h ∙
+    ap (λ l. distinct (numbers p row ++ l)) (append-nil (named p (drop (i + 1) rows))) ∙
+    sym (ap (λ l. distinct (named p l)) (drop_more rows i None lt) ∙ ap (λ s. distinct (named p (s ∷ drop (i + 1) rows))) e)
+
+-- the numbers of a row counted where they stand last
+pub later_in : (p : ℕ) (row rest : List ℕ) (i k : ℕ) → i < p → p ≤ length row
+    → has (drop (i + 1) (numbers p row) ++ rest) k ≡ (has (slice_range row (i + 1) p) k || has rest k)
+later_in p row rest i k lt le =
+    list_any-append (λ n. n == k) (drop (i + 1) (numbers p row)) rest ∙
+    ap (λ l. has (drop (i + 1) l) k || has rest k) (numbers_taken p row le) ∙
+    (let e : p ≡ i + 1 + (p - (i + 1)) = omega (arith, lt) in
+    ap (λ m. has (drop (i + 1) (take m row)) k || has rest k) e ∙ ap (λ l. has l k || has rest k) (drop-take (i + 1) (p - (i + 1)) row))
+
+last_step : (p : ℕ) (row rest : List ℕ) (i : ℕ) → i < p
+    → distinct (drop i (numbers p row) ++ rest) ≡ cond (has (drop (i + 1) (numbers p row) ++ rest) (get_or row i 0)) 0 1 + distinct (drop (i + 1) (numbers p row) ++ rest)
+last_step p row rest i lt =
+    ap (λ l. distinct (l ++ rest)) (drop_more (numbers p row) i 0 (omega (arith, length-map-range_with_len (λ i. get_or row i 0) 0 p))) ∙
+    ap (λ k. cond (has (drop (i + 1) (numbers p row) ++ rest) k) 0 1 + distinct (drop (i + 1) (numbers p row) ++ rest)) (get_or-map-range_with_len (λ i. get_or row i 0) 0 p i i 0 lt (omega arith))
+
+pub last_seen : (p : ℕ) (row rest : List ℕ) (i : ℕ) → i < p → has (drop (i + 1) (numbers p row) ++ rest) (get_or row i 0) ≡ true
+    → distinct (drop i (numbers p row) ++ rest) ≡ distinct (drop (i + 1) (numbers p row) ++ rest)
+last_seen p row rest i lt e = let s = last_step p row rest i lt ∙ ap (λ b. cond b 0 1 + distinct (drop (i + 1) (numbers p row) ++ rest)) e in omega (arith, s)
+
+pub last_new : (p : ℕ) (row rest : List ℕ) (i : ℕ) → i < p → has (drop (i + 1) (numbers p row) ++ rest) (get_or row i 0) ≡ false
+    → distinct (drop i (numbers p row) ++ rest) ≡ 1 + distinct (drop (i + 1) (numbers p row) ++ rest)
+last_new p row rest i lt e = last_step p row rest i lt ∙ ap (λ b. cond b 0 1 + distinct (drop (i + 1) (numbers p row) ++ rest)) e
+
+pub last_end : (p : ℕ) (row rest : List ℕ) (i : ℕ) → p ≤ i → distinct (drop i (numbers p row) ++ rest) ≡ distinct rest
+last_end p row rest i le = ap (λ l. distinct (l ++ rest)) (drop_all i (numbers p row) (omega (arith, length-map-range_with_len (λ i. get_or row i 0) 0 p)))

@@ -1,9 +1,10 @@
 -- Numbers among others.
-use Rattle.std.proofs.Common.{◌≡◌, ℕ, zero, suc, ◌+◌, ◌<◌, ◌≤◌, Bool, true, false, eqb, ◌==◌, ◌||◌, ◌⊎◌, Option, None, Some, List, [], ◌∷◌, ◌++◌, map, length, get_or, take, sym, refl, ap, ◌∙◌, inl, inr, ⊎_elim, arith}
+use Rattle.std.proofs.Common.{◌≡◌, ℕ, zero, suc, ◌+◌, ◌<◌, ◌≤◌, Bool, true, false, eqb, ◌==◌, ◌||◌, ◌⊎◌, Option, None, Some, List, [], ◌∷◌, ◌++◌, map, length, get_or, take, drop, append_assoc, sym, refl, ap, ◌∙◌, inl, inr, ⊎_elim, arith}
 use Rattle.std.specs.List.{list_any, find, range_with_len}
-use Rattle.std.proofs.lemmas.List.Folds.{list_any-append, list_any_at}
+use Rattle.std.specs.Option.{option_or}
+use Rattle.std.proofs.lemmas.List.Folds.{list_any-append, list_any_at, find-append}
 use Rattle.std.proofs.lemmas.List.FromFn.{length-map-range_with_len, get_or-map-range_with_len}
-use Rattle.std.proofs.lemmas.List.{ext_get_or, get_or-take, length-take-le}
+use Rattle.std.proofs.lemmas.List.{ext_get_or, get_or-take, length-take-le, drop_more}
 use Rattle.std.proofs.lemmas.Bool.{cases_Bool, cases_eq, cond-true, cond-false, eq-eqb, eqb-true, and_parts, and_from}
 use Rattle.paging.specs.Pages.{numbers, named, has, slot_names, same}
 
@@ -72,6 +73,9 @@ named_any p [] k = refl
 named_any p (None ∷ rows) k = named_any p rows k
 named_any p (Some row ∷ rows) k = ap (λ b. has (numbers p row) k || b) (named_any p rows k) ∙ sym (list_any-append (λ n. n == k) (numbers p row) (named p rows))
 
+some_same : (x y : ℕ) → Some x ≡ Some y → x ≡ y
+some_same x y e = cc
+
 -- the first number below n that passes a test
 pub found : (p : ℕ → Bool) (a n k : ℕ) → find p (range_with_len a n) ≡ Some k → (p k ≡ true) × (k < a + n)
 found p a zero k e = absurd (cc)
@@ -80,9 +84,6 @@ found p a (suc n) k e =
     (λ t. let q : a ≡ k = some_same a k (sym (cond-true (p a) (Some a) (find p (range_with_len (a + 1) n)) t) ∙ e) in (ap p (sym q) ∙ t, omega (arith, q)))
     (λ f. let v = found p (a + 1) n k (sym (cond-false (p a) (Some a) (find p (range_with_len (a + 1) n)) f) ∙ e) in (v.0, omega (arith, v.1)))
     (cases_Bool (p a))
-  where
-    some_same : (x y : ℕ) → Some x ≡ Some y → x ≡ y
-    some_same x y e = cc
 
 pub not_found : (p : ℕ → Bool) (a n : ℕ) → find p (range_with_len a n) ≡ None → (k : ℕ) → a ≤ k → k < a + n → p k ≡ false
 not_found p a zero e k h l = absurd (omega arith)
@@ -94,6 +95,41 @@ not_found p a (suc n) e k h l =
     (λ ne. not_found p (a + 1) n (sym (cond-false (p a) (Some a) (find p (range_with_len (a + 1) n)) f) ∙ e) k (omega (arith, ne)) (omega arith))
     (cases_eq k a))
     (cases_Bool (p a))
+
+-- the first of some numbers that passes a test is one of them
+pub found_among : (p : ℕ → Bool) (ks : List ℕ) (k : ℕ) → find p ks ≡ Some k → (p k ≡ true) × (has ks k ≡ true)
+found_among p [] k e = absurd (cc)
+found_among p (n ∷ ks) k e =
+    ⊎_elim
+    (λ t. let q : n ≡ k = some_same n k (sym (cond-true (p n) (Some n) (find p ks) t) ∙ e) in (ap p (sym q) ∙ t, true_or (n == k) (has ks k) (eq-eqb n k q)))
+    (λ f. let v = found_among p ks k (sym (cond-false (p n) (Some n) (find p ks) f) ∙ e) in (v.0, or_true (n == k) (has ks k) v.1))
+    (cases_Bool (p n))
+
+-- where none of them passes, one of them does not
+pub none_among : (p : ℕ → Bool) (ks : List ℕ) (k : ℕ) → find p ks ≡ None → has ks k ≡ true → p k ≡ false
+none_among p [] k e h = absurd (cc)
+none_among p (n ∷ ks) k e h =
+    ⊎_elim
+    (λ t. let s = sym (cond-true (p n) (Some n) (find p ks) t) ∙ e in absurd (cc))
+    (λ f.
+    ⊎_elim (λ q. ap p (sym (eqb-true n k q)) ∙ f)
+    (λ i. none_among p ks k (sym (cond-false (p n) (Some n) (find p ks) f) ∙ e) i)
+    (or_cases (n == k) (has ks k) h))
+    (cases_Bool (p n))
+
+-- numbers looked through row by row, and behind the rows others
+pub looked_past : (t : ℕ → Bool) (p : ℕ) (rows : List (Option (List ℕ))) (laid : List ℕ) (i : ℕ) → i < length rows → get_or rows i None ≡ None
+    → find t (named p (drop i rows) ++ laid) ≡ find t (named p (drop (i + 1) rows) ++ laid)
+looked_past t p rows laid i lt e =
+    ap (λ l. find t (named p l ++ laid)) (drop_more rows i None lt) ∙ ap (λ s. find t (named p (s ∷ drop (i + 1) rows) ++ laid)) e
+
+pub looked_row : (t : ℕ → Bool) (p : ℕ) (rows : List (Option (List ℕ))) (laid : List ℕ) (i : ℕ) (row : List ℕ) → i < length rows → get_or rows i None ≡ Some row
+    → find t (named p (drop i rows) ++ laid) ≡ option_or (find t (numbers p row)) (find t (named p (drop (i + 1) rows) ++ laid))
+looked_row t p rows laid i row lt e =
+    ap (λ l. find t (named p l ++ laid)) (drop_more rows i None lt) ∙
+    ap (λ s. find t (named p (s ∷ drop (i + 1) rows) ++ laid)) e ∙
+    ap (find t) (append_assoc (numbers p row) (named p (drop (i + 1) rows)) laid) ∙
+    find-append t (numbers p row) (named p (drop (i + 1) rows) ++ laid)
 
 pub has_either : (xs ys : List ℕ) (k : ℕ) → has xs k ≡ false → has ys k ≡ has (xs ++ ys) k
 has_either xs ys k h = sym (list_any-append (λ n. n == k) xs ys ∙ ap (λ b. b || has ys k) h)

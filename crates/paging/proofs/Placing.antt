@@ -1,12 +1,12 @@
 -- The pages of a snapshot laid one after another.
-use Rattle.std.proofs.Common.{◌≡◌, ℕ, ◌+◌, ◌<◌, Bool, true, false, ◌&&◌, None, Some, List, [], ◌∷◌, ◌++◌, length, get_or, set, take, sym, refl, ap, ◌∙◌, subst, ⊎_elim, append_assoc, arith}
+use Rattle.std.proofs.Common.{◌≡◌, ℕ, ◌+◌, ◌<◌, Bool, true, false, None, Some, List, [], ◌∷◌, ◌++◌, length, get_or, set, take, sym, refl, ap, ◌∙◌, subst, ⊎_elim, append_assoc, arith}
 use Rattle.std.proofs.lemmas.List.{get_or-set_same, get_or-set_other, take_more_set}
-use Rattle.std.specs.List.{find, range_with_len}
-use Rattle.std.proofs.lemmas.Bool.{cases_lt, and_parts, and_from}
+use Rattle.std.specs.List.{find}
+use Rattle.std.proofs.lemmas.Bool.{cases_lt}
 use Rattle.paging.specs.Layout.{whole}
 use Rattle.paging.specs.Pages.{page, has, Kept, same}
 use Rattle.paging.specs.Steps.{StaysBehind, Placed, Laid}
-use Rattle.paging.proofs.Numbers.{has_left, has_right, has_push, has_at, found, not_found, same_self, same_equal}
+use Rattle.paging.proofs.Numbers.{has_left, has_right, has_push, has_at, found_among, none_among, same_self, same_equal}
 
 -- fewer numbers are kept too
 pub kept_fewer : (ks ks' pool : List ℕ) → ((k : ℕ) → has ks' k ≡ true → has ks k ≡ true) → Kept ks pool → Kept ks' pool
@@ -72,21 +72,17 @@ laid_more n ks words pool row content pool₁ k pool₂ lt is d s =
       kept = subst (λ l. Kept l pool₂) (append_assoc ks (take n row) (k ∷ []) ∙ ap (λ l. ks ++ l) (sym (take_more_set row n k lt))) s.kept;
     }
 
-pub placed_found : (ks content pool : List ℕ) (q k : ℕ) → find (λ l. same (page pool l) content && has ks l) (range_with_len 0 q) ≡ Some k → Kept ks pool → Placed ks content pool k pool
-placed_found ks content pool q k e kept =
-    let f = found (λ l. same (page pool l) content && has ks l) 0 q k e in
-    let b = and_parts (same (page pool k) content) (has ks k) f.0 in
-    placed_known ks content pool k b.1 (same_equal (page pool k) content b.0) kept
+pub placed_found : (ks content pool : List ℕ) (k : ℕ) → find (λ l. same (page pool l) content) ks ≡ Some k → Kept ks pool → Placed ks content pool k pool
+placed_found ks content pool k e kept =
+    let f = found_among (λ l. same (page pool l) content) ks k e in
+    placed_known ks content pool k f.1 (same_equal (page pool k) content f.0) kept
 
-pub placed_new : (ks content pool : List ℕ) (k : ℕ) (pool' : List ℕ) → find (λ l. same (page pool l) content && has ks l) (range_with_len 0 (whole (length pool))) ≡ None
+pub placed_new : (ks content pool : List ℕ) (k : ℕ) (pool' : List ℕ) → find (λ l. same (page pool l) content) ks ≡ None
     → k < whole (length pool) → has ks k ≡ false
     → page pool' k ≡ content → ((l : ℕ) → (l ≡ k → ⊥) → page pool' l ≡ page pool l)
     → StaysBehind pool pool' → length pool' ≡ length pool
     → Kept ks pool → Placed ks content pool k pool'
 placed_new ks content pool k pool' e low unused holds others behind size kept =
     placed_fresh ks content pool k pool' low unused
-    (λ l h i q.
-    not_both (same (page pool l) content && has ks l)
-    (and_from (same (page pool l) content) (has ks l) (ap (same (page pool l)) (sym q) ∙ same_self (page pool l)) i)
-    (not_found (λ l. same (page pool l) content && has ks l) 0 (whole (length pool)) e l (omega arith) (omega arith)))
+    (λ l _ i q. not_both (same (page pool l) content) (ap (same (page pool l)) (sym q) ∙ same_self (page pool l)) (none_among (λ l. same (page pool l) content) ks l e i))
     holds others behind size kept

@@ -42,6 +42,11 @@ named p (Some row ∷ rows) = numbers p row ++ named p rows
 abbrev pub has : List ℕ → ℕ → Bool
 has ks k = list_any (λ n. n == k) ks
 
+-- how many different numbers there are
+abbrev pub distinct : List ℕ → ℕ
+distinct [] = 0
+distinct (k ∷ ks) = cond (has ks k) 0 1 + distinct ks
+
 -- whether a slot's row of p pages names a page
 abbrev pub slot_names : (p k : ℕ) → Option (List ℕ) → Bool
 slot_names p k None = false

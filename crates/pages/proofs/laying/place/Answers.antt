@@ -6,7 +6,7 @@ use Rattle.pages.proofs.laying.place.Goals as goal
 
 pub returns-in-Some : goal.returns-in-Some
 returns-in-Some c =
-    placed_found (in_use c.args.used.now) c.args.content.now c.args.pool.now (length c.args.pool.now / 4) c.in-Some.known (sym c.find.ensures ∙ c.in-Some.is) c.requires.kept
+    placed_found (in_use c.args.used.now) c.args.content.now c.args.pool.now c.in-Some.known (sym c.find.ensures ∙ c.in-Some.is) c.requires.kept
 
 pub unwrap-number-requires : goal.unwrap-number-requires
 unwrap-number-requires c = one_free (in_use c.args.used.now) (length c.args.pool.now / 4) c.free.result c.requires.room c.free.ensures
