@@ -19,9 +19,9 @@ loop-slot-preserved c =
     let t = λ (k : ℕ). same (page c.args.pool.now k) c.args.content.now in
     let rest = find t (named c.args.self.now.pages (drop (c.loop-slot.slot-index + 1) c.args.self.now.rows.now) ++ c.args.self.now.laid.now) in
     elim c.match-slot.branch [
-      in-Some+in_default-find_in w ↦
-        sym (looked_row t c.args.self.now.pages c.args.self.now.rows.now c.args.self.now.laid.now c.loop-slot.slot-index w.in-Some.row c.loop-slot-test.true w.in-Some.is ∙
-        ap (λ o. option_or o rest) (sym w.find_in.ensures ∙ w.in_default-find_in.is)) ∙ c.loop-slot.invariant
-    | in_default w ↦
-        sym (looked_past t c.args.self.now.pages c.args.self.now.rows.now c.args.self.now.laid.now c.loop-slot.slot-index c.loop-slot-test.true w.in_default.is) ∙ c.loop-slot.invariant
+      | in-Some+in_default-find_in w ↦
+          sym (looked_row t c.args.self.now.pages c.args.self.now.rows.now c.args.self.now.laid.now c.loop-slot.slot-index w.in-Some.row c.loop-slot-test.true w.in-Some.is ∙
+          ap (λ o. option_or o rest) (sym w.find_in.ensures ∙ w.in_default-find_in.is)) ∙ c.loop-slot.invariant
+      | in_default w ↦
+          sym (looked_past t c.args.self.now.pages c.args.self.now.rows.now c.args.self.now.laid.now c.loop-slot.slot-index c.loop-slot-test.true w.in_default.is) ∙ c.loop-slot.invariant
     ]
