@@ -73,6 +73,16 @@ pub kept_in : (n p : ℕ) (ps : List ℕ) → p < n → kept n (p ∷ ps) ≡ p 
 unfolding kept
 kept_in n p ps h = grind arith
 
+pub kept_out : (n p : ℕ) (ps : List ℕ) → n ≤ p → kept n (p ∷ ps) ≡ kept n ps
+unfolding kept
+kept_out n p ps h = grind arith
+
+-- what is kept of two lists in a row
+pub kept_append : (n : ℕ) (ps qs : List ℕ) → kept n (ps ++ qs) ≡ kept n ps ++ kept n qs
+unfolding kept
+kept_append n [] qs = refl
+kept_append n (p ∷ ps) qs = grind (arith, kept_append n ps qs, cases_lt, kept_in, kept_out)
+
 -- held scans that are all below n are all kept
 pub kept_all : (n p : ℕ) (ps : List ℕ) → Rising n p ps → top p ps < n → kept n (p ∷ ps) ≡ p ∷ ps
 unfolding kept

@@ -21,6 +21,14 @@ numbered_set f g n slot v others here =
     (λ ne. others j k ne ∙ sym (get_or-map-range_with_len g 0 n j j empty k (omega arith)) ∙ sym (get_or-set_other (numbered g n) slot j v empty ne))
     (cases_eq j slot))
 
+-- where no number tells another slot, all are the same
+pub numbered_same : (f g : ℕ → Slot) (n : ℕ) → ((j : ℕ) → j < n → f j ≡ g j) → numbered f n ≡ numbered g n
+numbered_same f g n all =
+    ext_get_or empty (numbered f n) (numbered g n) (length-map-range_with_len f 0 n ∙ sym (length-map-range_with_len g 0 n))
+    (λ j h.
+    let k : j < n = omega (arith, length-map-range_with_len f 0 n) in
+    get_or-map-range_with_len f 0 n j j empty k (omega arith) ∙ all j k ∙ sym (get_or-map-range_with_len g 0 n j j empty k (omega arith)))
+
 -- where every number tells an empty slot, all are empty
 pub numbered_empty : (f : ℕ → Slot) (n : ℕ) → ((j : ℕ) → j < n → f j ≡ empty) → numbered f n ≡ replicate n empty
 numbered_empty f n all =

@@ -1,7 +1,7 @@
 -- The slots of a pair after a put into one of its stores, or a free.
-use Rattle.std.proofs.Common.{◌≡◌, ℕ, ◌+◌, ◌-◌, ◌<◌, List, ◌++◌, length, set, sym, refl, ap, ◌∙◌, arith, length-set}
+use Rattle.std.proofs.Common.{◌≡◌, ℕ, ◌+◌, ◌-◌, ◌<◌, List, ◌++◌, length, set, sym, refl, ap, ◌∙◌, arith, length-set, length-append}
 use Rattle.std.proofs.lemmas.List.{set-append_left, set-append_right}
-use Rattle.store.specs.Slots.{Slot, puts}
+use Rattle.store.specs.Slots.{Slot, putting, puts}
 use Rattle.store.specs.Pairs.{paired}
 
 -- where a pair has a slot, its two stores have one width
@@ -19,7 +19,14 @@ set_second w w' s s' at v =
     let e : s ++ set s' at v ≡ set (s ++ s') (length s + at) v = ap (λ j. s ++ set s' j v) i ∙ sym (set-append_right s s' (length s) (length s + at) v refl (omega arith)) in
     grind (arith, length-set, e)
 
--- a put into the store that has the slot
+-- what a put into the store that has the slot answers
+pub putting_first : (w w' : ℕ) (s s' : List Slot) (at : ℕ) (words : List ℕ) → at < length (paired w w' s s') → at < length s → putting w s at words ≡ putting w (paired w w' s s') at words
+putting_first w w' s s' at words h k = grind arith
+
+pub putting_second : (w w' : ℕ) (s s' : List Slot) (at : ℕ) (words : List ℕ) → length s + at < length (paired w w' s s') → putting w' s' at words ≡ putting w (paired w w' s s') (length s + at) words
+putting_second w w' s s' at words h = grind (arith, length-append)
+
+-- what it leaves
 pub put_first : (w w' : ℕ) (s s' : List Slot) (at : ℕ) (words : List ℕ) → at < length s → paired w w' (puts w s at words) s' ≡ puts w (paired w w' s s') at words
 put_first w w' s s' at words h = grind (arith, set_first)
 
