@@ -6,7 +6,7 @@ use Rattle.terms.specs.declared.Refusal.TheVariants.{NotOpen, BadSlots, WidthsDi
 use Rattle.terms.specs.Refusals.{number, place as placed}
 use Rattle.machine.specs.Machines.{run}
 use Rattle.source.specs.Scans.{Sample, inputs}
-use Rattle.viewer.specs.Answers.{Value, fits, holds}
+use Rattle.viewer.specs.Answers.{Value, holds, watched}
 use Rattle.viewer.specs.Answers.Value.{total, scan, none, word, refusal}
 use Rattle.viewer.specs.declared.Call.{Call}
 use Rattle.viewer.specs.declared.Call.TheVariants.{Open, Ahead, Back, Seek, Look, Count, Turn}
@@ -46,7 +46,7 @@ abbrev pub when_open : Given → ℕ → Call → Option Refusal
 when_open given n (Open s) = Some AlreadyOpen
 when_open given n Ahead = if nat_le (length given.scans) n then Some AtEnd else None
 when_open given n Back = if nat_le n lowest then Some AtStart else None
-when_open given n (Seek watch) = if fits watch given.wide then (if nat_le n lowest then Some AtStart else None) else Some NoWord
+when_open given n (Seek watch) = if nat_lt (watched watch) given.wide then (if nat_le n lowest then Some AtStart else None) else Some NoWord
 when_open given n (Look w) = if nat_lt w given.wide then None else Some NoWord
 when_open given n Count = None
 when_open given n Turn = None
