@@ -4,7 +4,7 @@
 mod plain;
 mod trial;
 
-use crate::plain::{WIDTH, different};
+use crate::plain::{MOST, WIDTH, different};
 use crate::trial::Trial;
 use copies::Copies;
 use pages::Pages;
@@ -29,13 +29,13 @@ fn run<S: Store, F: Fn(&mut Trial<'_, S>)>(
 ) -> io::Result<()>
     requires { F.IsAlwaysCallable ask }
 {
-    let mut plain = [None; 64];
-    let slots = store.capacity();
-    let mut trial = Trial::new(store, &mut plain[..slots.min(64)], seed);
+    let mut plain = [None; MOST];
+    let mut trial = Trial::new(store, &mut plain, seed);
     for _ in 0..ROUNDS {
         trial.round();
         ask(&mut trial);
     }
+    let slots = trial.store.capacity();
     let tally = &trial.tally;
     println!(rt; "{name}: {slots} slots, {tally}")
 }

@@ -4,6 +4,9 @@ use terms::Refusal;
 // The words of a snapshot.
 pub const WIDTH: usize = 6;
 
+// The slots of the list, as many as a store has at most.
+pub const MOST: usize = 64;
+
 // A slot's snapshot, if it holds one.
 pub type Slot = Option<[u32; WIDTH]>;
 

@@ -1,5 +1,5 @@
 // Random calls to a store and to the plain list, and what they told.
-use crate::plain::{self, Slot, WIDTH};
+use crate::plain::{self, MOST, Slot, WIDTH};
 use std::fmt;
 use store::Store;
 use terms::Refusal;
@@ -78,17 +78,17 @@ impl Tally {
     }
 }
 
-// A store and a plain list of its slots, called alike.
+// A store and a plain list, whose first slots are called alike.
 #[derive(Drop)]
 pub struct Trial<'t, S> {
     pub store: &'t mut S,
-    pub plain: &'t mut [Slot],
+    pub plain: &'t mut [Slot; MOST],
     random: Random,
     pub tally: Tally,
 }
 
 impl<'t, S: Store> Trial<'t, S> {
-    pub(crate) fn new(store: &'t mut S, plain: &'t mut [Slot], seed: u32) -> Trial<'t, S> {
+    pub(crate) fn new(store: &'t mut S, plain: &'t mut [Slot; MOST], seed: u32) -> Trial<'t, S> {
         Trial {
             store,
             plain,
@@ -97,17 +97,23 @@ impl<'t, S: Store> Trial<'t, S> {
         }
     }
 
-    fn put(&mut self, slot: usize, words: &mut [u32]) {
+    // The plain list of a store with so many slots.
+    fn listed(&mut self, slots: usize) -> &mut [Slot] {
+        &mut self.plain[..slots.min(MOST)]
+    }
+
+    fn put(&mut self, slots: usize, slot: usize, words: &mut [u32]) {
         self.random.draw(words);
         let answer = self.store.put(slot, words);
-        self.tally.note(answer, plain::put(self.plain, slot, words));
+        let expected = plain::put(self.listed(slots), slot, words);
+        self.tally.note(answer, expected);
     }
 
     // A buffer keeps its words where it is refused.
-    fn get(&mut self, slot: usize, buffer: &mut [u32]) {
+    fn get(&mut self, slots: usize, slot: usize, buffer: &mut [u32]) {
         buffer.fill(7);
         let answer = self.store.get(slot, buffer);
-        let expected = plain::get(self.plain, slot, buffer.len());
+        let expected = plain::get(self.listed(slots), slot, buffer.len());
         self.tally.note(answer, expected.map(|_| ()));
         match expected {
             Ok(words) => {
@@ -123,21 +129,22 @@ impl<'t, S: Store> Trial<'t, S> {
         }
     }
 
-    fn free(&mut self, slot: usize) {
+    fn free(&mut self, slots: usize, slot: usize) {
         let answer = self.store.free(slot);
-        self.tally.note(answer, plain::free(self.plain, slot));
+        let expected = plain::free(self.listed(slots), slot);
+        self.tally.note(answer, expected);
     }
 
-    // One random call; every ninth is of another width.
+    // One random call; every ninth is of another width. At each the store is asked anew how many slots it has.
     fn call(&mut self) {
-        let slots = self.plain.len().min(64);
-        let slot = self.random.next() as usize % (slots + 2);
+        let slots = self.store.capacity();
+        let slot = self.random.next() as usize % (slots.min(MOST) + 2);
         match self.random.next() % 9 {
-            0..=2 => self.put(slot, &mut [0; WIDTH]),
-            3..=5 => self.get(slot, &mut [0; WIDTH]),
-            6 | 7 => self.free(slot),
-            _ if self.random.next() % 2 == 0 => self.put(slot, &mut [0; 5]),
-            _ => self.get(slot, &mut [0; 7]),
+            0..=2 => self.put(slots, slot, &mut [0; WIDTH]),
+            3..=5 => self.get(slots, slot, &mut [0; WIDTH]),
+            6 | 7 => self.free(slots, slot),
+            _ if self.random.next() % 2 == 0 => self.put(slots, slot, &mut [0; 5]),
+            _ => self.get(slots, slot, &mut [0; 7]),
         }
     }
 
