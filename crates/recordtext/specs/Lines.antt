@@ -3,7 +3,7 @@ use Rattle.std.specs.Prelude.{◌≡◌, ℕ, ◌+◌, Bool, ◌&&◌, ◌||◌,
 use Rattle.std.specs.Global.{Vec}
 use Rattle.std.specs.List.{list_all, slice_split}
 use Rattle.std.specs.Str.{bytes_eq}
-use Rattle.text.specs.Numbers.{number}
+use Rattle.text.specs.Numbers.{number, leading, ends}
 use Rattle.recordtext.specs.declared.Fault.{Fault}
 use Rattle.recordtext.specs.declared.Fault.TheVariants.{Bad, NoMemory}
 use Rattle.recordtext.specs.declared.Line as declared
@@ -26,6 +26,10 @@ numbers_from ns (piece ∷ pieces) = elim (added ns piece) [ Some more ↦ numbe
 -- the numbers of a text, blanks between them
 abbrev pub numbers : List ℕ → Option (List ℕ)
 numbers text = numbers_from [] (slice_split blank text)
+
+-- a number at a text's front with a blank or the end behind it, and what follows the number
+abbrev pub first_number : List ℕ → Option (ℕ × List ℕ)
+first_number text = elim (leading 16 text) [ Some p ↦ if ends blank p.1 then Some p else None | None ↦ None ]
 
 -- what a line stands for
 pub data Entry : Type 0 where

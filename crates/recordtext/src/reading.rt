@@ -1,12 +1,12 @@
 // Numbers and keywords of a line.
-ghost use Rattle.recordtext.specs.Lines.{blank, added, numbers, behind, Adds, Numbers};
+ghost use Rattle.recordtext.specs.Lines.{blank, first_number, numbers, behind, Numbers};
 ghost use Rattle.std.specs.Prelude.{◌≡◌};
 ghost use Rattle.std.specs.List.{list_all};
 ghost use Rattle.std.specs.Option.{option_map};
 
 use crate::Fault;
 use std::alloc::Global;
-use text::number;
+use text::leading;
 
 fn is_blank(byte: u8) -> bool
     ensures { result ≡ blank byte }
@@ -20,26 +20,30 @@ pub(crate) fn all_blank(text: &[u8]) -> bool
     text.iter().all(|b| is_blank(*b))
 }
 
-// A piece behind the numbers before it; an empty one adds nothing.
-// One function for this and for the pieces of words is no plainer: blanks, limits, the 0x and the fault's place differ.
-fn add(all: &mut Vec<u32>, piece: &[u8]) -> Result<(), Fault>
-    ensures { Adds (added all.old.items piece.now) all.new.items result }
+// A number at a text's front with a blank or the end behind it, and what follows the number.
+fn first_number(text: &[u8]) -> Option<(u32, &[u8])>
+    ensures { option_map (λ p. (p.0, p.1.now)) result ≡ first_number text.now }
 {
-    if piece.is_empty() {
-        return Ok(());
+    match leading(16, text)? {
+        (_, [byte, ..]) if !is_blank(*byte) => None,
+        first => Some(first),
     }
-    let number = number(16, piece).ok_or(Fault::Bad)?;
-    all.push(number)?;
-    Ok(())
 }
 
-// The numbers of a text.
+// The numbers of a text. Read byte by byte: a text is refused at the first byte that no number has.
 pub(crate) fn read_numbers(heap: Global, text: &[u8]) -> Result<Vec<u32>, Fault>
     ensures { Numbers (numbers text.now) result }
 {
     let mut all = Vec::new(heap);
-    for piece in text.split(|b| is_blank(*b)) {
-        add(&mut all, piece)?;
+    let mut rest = text;
+    while let Some((byte, behind)) = rest.split_first() {
+        if is_blank(*byte) {
+            rest = behind;
+        } else {
+            let (number, behind) = first_number(rest).ok_or(Fault::Bad)?;
+            all.push(number)?;
+            rest = behind;
+        }
     }
     Ok(all)
 }

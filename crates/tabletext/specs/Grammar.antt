@@ -19,6 +19,11 @@ chain (Some p) f = f p.0 p.1
 abbrev pub word : List ℕ → Option (List ℕ × List ℕ)
 word line = option_map (λ i. (take i line, drop (i + 1) line)) (position (λ b. b == 32) line)
 
+-- what follows a space
+abbrev pub behind_space : List ℕ → Option (List ℕ)
+behind_space [] = None
+behind_space (b ∷ bs) = if b == 32 then Some bs else None
+
 -- a number in decimal digits, below 2 ^ 32, and one space
 abbrev pub numeral : List ℕ → Option (ℕ × List ℕ)
 numeral line = chain (word line) (λ digits rest. option_map (λ n. (n, rest)) (number 10 digits))

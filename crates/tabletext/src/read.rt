@@ -1,36 +1,31 @@
 // Reading one line: each reader answers what it read, and what follows.
-ghost use Rattle.std.specs.Prelude.{◌≡◌, ◌==◌};
-ghost use Rattle.std.specs.List.{position};
+ghost use Rattle.std.specs.Prelude.{◌≡◌};
 ghost use Rattle.std.specs.Option.{option_map};
-ghost use Rattle.tabletext.specs.Grammar.{word, numeral, moving, entry_of, line_of};
+ghost use Rattle.tabletext.specs.Grammar.{behind_space, numeral, moving, entry_of, line_of};
 
 use crate::Line;
 use tape::{Entry, Move};
-use text::number;
+use text::{leading, number};
 
 // What the line of the control states begins with.
 const HEADER: &[u8; 7] = b"states ";
 
-fn first_space(line: &[u8]) -> Option<usize>
-    ensures { result ≡ position (λ b. b == 32) line.now }
+// What follows a space.
+fn behind_space(text: &[u8]) -> Option<&[u8]>
+    ensures { option_map (λ rest. rest.now) result ≡ behind_space text.now }
 {
-    line.iter().position(|b| *b == b' ')
-}
-
-// What stands before the first space.
-fn word(line: &[u8]) -> Option<(&[u8], &[u8])>
-    ensures { option_map (λ p. (p.0.now, p.1.now)) result ≡ word line.now }
-{
-    let end = first_space(line)?;
-    Some((&line[..end], &line[end + 1..]))
+    match text {
+        [b' ', rest @ ..] => Some(rest),
+        _ => None,
+    }
 }
 
 // A number and a space.
 fn numeral(line: &[u8]) -> Option<(u32, &[u8])>
     ensures { option_map (λ p. (p.0, p.1.now)) result ≡ numeral line.now }
 {
-    let (digits, rest) = word(line)?;
-    Some((number(10, digits)?, rest))
+    let (number, rest) = leading(10, line)?;
+    Some((number, behind_space(rest)?))
 }
 
 // A letter for a move and a space.
