@@ -4,12 +4,12 @@ use Rattle.std.proofs.lemmas.Bool.Decides.{nat_tests}
 use Rattle.std.proofs.lemmas.List.Splits.{slice_split-cons_yes}
 use Rattle.std.specs.List.{slice_split}
 use Rattle.std.specs.Option.{option_map, ok_or}
-use Rattle.text.specs.Numbers.{number, front, leading, ends}
-use Rattle.text.proofs.Numerals.{NoDigit, piece, behind, piece_more, piece_number, up_to}
+use Rattle.text.specs.Numbers.{number, front, ends}
+use Rattle.text.proofs.Numerals.{NoDigit, behind, piece_more, piece_number, up_to}
 use Rattle.text.proofs.Pieces.{Cut, cut}
 use Rattle.recordtext.specs.declared.Fault.{Fault}
 use Rattle.recordtext.specs.declared.Fault.TheVariants.{Bad, NoMemory}
-use Rattle.recordtext.specs.Lines.{blank, added, numbers_from, first_number, Numbers}
+use Rattle.recordtext.specs.Lines.{blank, numbers_from, first_number, Numbers}
 
 blank_apart : NoDigit 16 blank
 blank_apart b h = grind (arith, nat_tests)
@@ -31,12 +31,16 @@ read_one ns b bs e =
   where
     c : Cut 16 blank (b ∷ bs)
     c = cut 16 blank blank_apart (b ∷ bs)
+
     one_more : Option ℕ → Option (List ℕ)
     one_more o = elim o [ Some n ↦ Some (ns ++ (n ∷ [])) | None ↦ None ]
+
     then_pieces : Option ℕ → Option (List ℕ)
     then_pieces o = elim (one_more o) as (λ _. Option (List ℕ)) [ Some more ↦ numbers_from more c.0 | None ↦ None ]
+
     with_rest : ℕ → ℕ × List ℕ
     with_rest n = (n, behind 16 (b ∷ bs))
+
     by : (o : Option ℕ) (t : Bool) → ends blank (behind 16 (b ∷ bs)) ≡ t → then_pieces (up_to blank (option_map with_rest o))
         ≡ read_on ns (elim (option_map with_rest o) as (λ _. Option (ℕ × List ℕ)) [ Some p ↦ cond (ends blank p.1) (Some p) None | None ↦ None ])
     by None t f = refl

@@ -1,5 +1,5 @@
 -- Lines of text that stand for records: `scan` and an input, `mark` with a number and its more words, in hexadecimal.
-use Rattle.std.specs.Prelude.{◌≡◌, ℕ, ◌+◌, Bool, ◌&&◌, ◌||◌, List, [], ◌∷◌, ◌++◌, length, take, drop, Some, None, Ok, Err, vec_items, Option, Result, MatchResult, ◌==◌, slice_index, codes, if◌then◌else◌}
+use Rattle.std.specs.Prelude.{◌≡◌, ℕ, ◌+◌, Bool, ◌&&◌, ◌||◌, List, [], ◌∷◌, ◌++◌, length, take, drop, Some, None, Ok, Err, vec_items, Option, Result, ◌==◌, slice_index, codes, if◌then◌else◌}
 use Rattle.std.specs.Global.{Vec}
 use Rattle.std.specs.List.{list_all, slice_split}
 use Rattle.std.specs.Str.{bytes_eq}
@@ -71,10 +71,6 @@ abbrev pub Reads : Option Entry → Result declared.Line Fault → Type 0
 Reads entry (Ok line) = Some (shown line) ≡ entry
 Reads entry (Err Bad) = None ≡ entry
 Reads entry (Err NoMemory) = Unit {0}
-
--- what a piece leaves is this, where memory did not fail
-abbrev pub Adds : Option (List ℕ) → List ℕ → Result (Unit {0}) Fault → Type 0
-Adds ns after result = MatchResult result (λ _. ns ≡ Some after) (λ e. e ≡ Bad → ns ≡ None)
 
 abbrev pub Numbers : Option (List ℕ) → Result (Vec ℕ) Fault → Type 0
 Numbers ns (Ok v) = Some (vec_items v) ≡ ns

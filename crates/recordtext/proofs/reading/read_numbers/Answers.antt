@@ -1,8 +1,8 @@
-use Rattle.std.proofs.Common.{rules, tests, Some, None, ℕ, length, drop, vec_items, sym, ap, ◌∙◌, arith}
+use Rattle.std.proofs.Common.{None, vec_items, sym, ap, ◌∙◌}
 use Rattle.std.proofs.lemmas.Result.{err_from_is_err_and}
 use Rattle.std.specs.List.{slice_split}
-use Rattle.recordtext.specs.Lines.{blank, numbers_from, numbers, first_number}
-use Rattle.recordtext.proofs.Pieces.{read_on, skipped, read_at, was_none, was_some, told}
+use Rattle.recordtext.specs.Lines.{blank, numbers_from, numbers}
+use Rattle.recordtext.proofs.Pieces.{read_at, was_none, was_some, told}
 use Rattle.recordtext.proofs.reading.read_numbers.Goals as goal
 
 pub returns-in_err-number : goal.returns-in_err-number
