@@ -1,4 +1,5 @@
 pub mod Answers
+pub mod Replies
 pub mod Viewing
 pub mod Rules
 pub mod Model

@@ -2,9 +2,10 @@
 #![tactic(auto)]
 
 mod condition;
+mod replies;
 
 pub use condition::Condition;
-use terms::{Place, Scan};
+use terms::{Place, Refusal, Scan};
 
 /// What a seek looks for in a state: a condition on one of its words.
 #[derive(Clone, Copy, PartialEq, Eq, Debug)]
@@ -44,6 +45,20 @@ pub enum Answer {
     Word(u32),
     /// count: the steps
     Steps(u64),
+}
+
+/// What a call answers, accepted or refused, as a long list keeps it: 16 bytes, where the result of a call takes 24, since
+/// a result has a tag of its own beside that of the answer in it. It is made from a result, and turned back into it.
+#[derive(Clone, Copy, PartialEq, Eq, Debug)]
+pub enum Reply {
+    Total(u32),
+    Reached(Scan),
+    Returned(Scan),
+    Found(Option<Scan>),
+    Turned(Scan),
+    Word(u32),
+    Steps(u64),
+    Refused(Refusal),
 }
 
 /// A held scan with its place, which is none where the scan is the total.

@@ -3,10 +3,7 @@ use schedule::count;
 use std::alloc::{AllocError, Global};
 use std::io;
 use terms::{Refusal, Scan};
-use viewer::{Answer, Call, Watch};
-
-// What a session says to a call.
-type Reply = Result<Answer, Refusal>;
+use viewer::{Answer, Call, Reply, Watch};
 
 // A walk over so many scans, from an open with so many slots.
 #[derive(Clone, Copy)]
@@ -19,8 +16,7 @@ pub struct Plan {
 fn goes_on(reply: &Reply, next: &Reply) -> bool {
     matches!(
         (reply, next),
-        (Ok(Answer::Reached(_)), Ok(Answer::Reached(_)))
-            | (Ok(Answer::Returned(_)), Ok(Answer::Returned(_)))
+        (Reply::Reached(_), Reply::Reached(_)) | (Reply::Returned(_), Reply::Returned(_))
     )
 }
 
@@ -67,7 +63,12 @@ impl Plan {
     }
 
     // A reply, which comes so many times in turn.
-    fn print_reply(&self, rt: &impl Print, reply: Reply, times: usize) -> io::Result<()> {
+    fn print_reply(
+        &self,
+        rt: &impl Print,
+        reply: Result<Answer, Refusal>,
+        times: usize,
+    ) -> io::Result<()> {
         match reply {
             Ok(Answer::Total(n)) => println!(rt; "open {n}"),
             Ok(Answer::Reached(Scan(n))) => println!(rt; "ahead {times}: at {n}"),
@@ -85,7 +86,7 @@ impl Plan {
     pub(crate) fn print(&self, rt: &impl Print, replies: &[Reply]) -> io::Result<()> {
         for run in replies.chunk_by(goes_on) {
             if let Some(reply) = run.last() {
-                self.print_reply(rt, *reply, run.len())?;
+                self.print_reply(rt, Result::from(*reply), run.len())?;
             }
         }
         Ok(())
