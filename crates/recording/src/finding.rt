@@ -15,7 +15,8 @@ fn is_more(word: u32) -> bool
 fn is_item(word: u32) -> bool
     ensures { result ≡ is_item word }
 {
-    matches!(Kind::of(word), Kind::Scan | Kind::Mark)
+    let kind = Kind::of(word);
+    kind == Kind::Scan || kind == Kind::Mark
 }
 
 // three of one line each: tried in their callers, where the proof of `position` over a part of the words did not close
