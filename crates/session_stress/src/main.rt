@@ -140,7 +140,8 @@ impl Bench {
         let answers = answers?;
         let mut plain = Plain::new(shape, total, states.as_slice());
         self.tally
-            .compare(calls.as_slice(), answers.as_slice(), &mut plain)
+            .compare(calls.as_slice(), answers.as_slice(), &mut plain);
+        Ok(())
     }
 
     // A store that no session over the machine can be opened with: too wide, without a slot, of two widths, or of more than 64 slots.
@@ -262,7 +263,7 @@ fn run_lists(heap: Global, seed: u32, kinds: Combination) -> anyhow::Result<Tall
     let mut bench = Bench {
         heap,
         random: Random(seed),
-        tally: Tally::new(heap),
+        tally: Tally::default(),
         list: 0,
     };
     for list in 0..LISTS {

@@ -1,12 +1,8 @@
 // The tally of a combination: answers by kind, disagreements, and a checksum.
 use crate::plain::Plain;
-use std::alloc::{AllocError, Global};
 use std::fmt;
 use terms::{Refusal, Scan};
-use viewer::{Answer, Call};
-
-// What a session says to a call.
-type Reply = Result<Answer, Refusal>;
+use viewer::{Answer, Call, Reply};
 
 // The refusals that a session has.
 const REASONS: [(Refusal, &str); 7] = [
@@ -21,7 +17,7 @@ const REASONS: [(Refusal, &str); 7] = [
 
 // A number of its own for each answer of a kind; the stored sums are made of these very numbers, which no derived hash
 // gives.
-fn digest(reply: Reply) -> u64 {
+fn digest(reply: Result<Answer, Refusal>) -> u64 {
     match reply {
         Ok(Answer::Total(n)) => u64::from(n),
         Ok(Answer::Reached(Scan(n))) => u64::from(n).wrapping_add(1 << 33),
@@ -36,7 +32,7 @@ fn digest(reply: Reply) -> u64 {
 }
 
 // Whether a reply is what was expected: where nothing is known, any number of steps.
-fn agrees(expected: Result<Option<Answer>, Refusal>, reply: Reply) -> bool {
+fn agrees(expected: Result<Option<Answer>, Refusal>, reply: Result<Answer, Refusal>) -> bool {
     match expected {
         Ok(Some(answer)) => reply == Ok(answer),
         Ok(None) => matches!(reply, Ok(Answer::Steps(_))),
@@ -44,59 +40,85 @@ fn agrees(expected: Result<Option<Answer>, Refusal>, reply: Reply) -> bool {
     }
 }
 
-#[derive(Drop)]
+// One more.
+fn up(count: &mut usize) {
+    *count = count.wrapping_add(1);
+}
+
+// Counted as the replies come, so that none is kept.
+#[derive(Default, Drop)]
 pub struct Tally {
-    replies: Vec<Reply>,
+    calls: usize,
+    opens: usize,
+    aheads: usize,
+    backs: usize,
+    finds: usize,
+    misses: usize,
+    words: usize,
+    turns: usize,
+    counts: usize,
     // numbers of steps that were known beforehand
     known: usize,
+    refusals: usize,
+    // the refusals by their reason, in the order of REASONS
+    reasons: [usize; 7],
     pub wrong: usize,
+    sum: u64,
 }
 
 impl Tally {
-    pub(crate) fn new(heap: Global) -> Tally {
-        Tally {
-            replies: Vec::new(heap),
-            known: 0,
-            wrong: 0,
-        }
-    }
-
     // Holds the replies to a list of calls against the plain viewer's.
-    pub(crate) fn compare(
-        &mut self,
-        calls: &[Call],
-        replies: &[Reply],
-        plain: &mut Plain<'_>,
-    ) -> Result<(), AllocError> {
+    pub(crate) fn compare(&mut self, calls: &[Call], replies: &[Reply], plain: &mut Plain<'_>) {
         if calls.len() != replies.len() {
-            self.wrong = self.wrong.wrapping_add(1);
+            up(&mut self.wrong);
         }
         for (call, reply) in calls.iter().zip(replies) {
+            let reply = Result::from(*reply);
             let expected = plain.call(*call);
             if let Ok(Some(Answer::Steps(_))) = expected {
-                self.known = self.known.wrapping_add(1);
+                up(&mut self.known);
             }
-            if !agrees(expected, *reply) {
-                self.wrong = self.wrong.wrapping_add(1);
+            if !agrees(expected, reply) {
+                up(&mut self.wrong);
             }
-            self.replies.push(*reply)?;
+            self.note(reply);
         }
-        Ok(())
     }
 
-    fn count<F: Fn(&Reply) -> bool>(&self, is_meant: F) -> usize
-        requires { (f : F) (x : _) → F.pre f x }
-    {
-        self.replies.iter().filter(|reply| is_meant(*reply)).count()
+    fn note(&mut self, reply: Result<Answer, Refusal>) {
+        up(&mut self.calls);
+        match reply {
+            Ok(Answer::Total(_)) => up(&mut self.opens),
+            Ok(Answer::Reached(_)) => up(&mut self.aheads),
+            Ok(Answer::Returned(_)) => up(&mut self.backs),
+            Ok(Answer::Found(Some(_))) => up(&mut self.finds),
+            Ok(Answer::Found(None)) => up(&mut self.misses),
+            Ok(Answer::Word(_)) => up(&mut self.words),
+            Ok(Answer::Turned(_)) => up(&mut self.turns),
+            Ok(Answer::Steps(_)) => up(&mut self.counts),
+            Err(why) => self.note_refusal(why),
+        }
+        self.sum = self
+            .sum
+            .wrapping_mul(6_364_136_223_846_793_005)
+            .wrapping_add(digest(reply));
+    }
+
+    fn note_refusal(&mut self, why: Refusal) {
+        up(&mut self.refusals);
+        for ((reason, _), count) in REASONS.iter().zip(&mut self.reasons) {
+            if *reason == why {
+                up(count);
+            }
+        }
     }
 
     // The refusals, all and by their reason.
     fn tell_refusals<W: fmt::Write>(&self, f: &mut fmt::Formatter<W>) -> fmt::Result {
-        let mut other = self.count(|reply| reply.is_err());
+        let mut other = self.refusals;
         write!(f, "{other} refusals (")?;
-        for (reason, name) in REASONS {
-            let count = self.count(|reply| *reply == Err(reason));
-            other = other.saturating_sub(count);
+        for ((_, name), count) in REASONS.iter().zip(&self.reasons) {
+            other = other.saturating_sub(*count);
             write!(f, "{count} {name}, ")?;
         }
         write!(f, "{other} other)")
@@ -106,16 +128,21 @@ impl Tally {
 // A line of the report, behind the name of the combination.
 impl fmt::Display for Tally {
     fn fmt<W: fmt::Write>(&self, f: &mut fmt::Formatter<W>) -> fmt::Result {
-        let Tally { known, wrong, .. } = self;
-        let calls = self.replies.len();
-        let opens = self.count(|reply| matches!(reply, Ok(Answer::Total(_))));
-        let aheads = self.count(|reply| matches!(reply, Ok(Answer::Reached(_))));
-        let backs = self.count(|reply| matches!(reply, Ok(Answer::Returned(_))));
-        let finds = self.count(|reply| matches!(reply, Ok(Answer::Found(Some(_)))));
-        let misses = self.count(|reply| matches!(reply, Ok(Answer::Found(None))));
-        let words = self.count(|reply| matches!(reply, Ok(Answer::Word(_))));
-        let turns = self.count(|reply| matches!(reply, Ok(Answer::Turned(_))));
-        let counts = self.count(|reply| matches!(reply, Ok(Answer::Steps(_))));
+        let Tally {
+            calls,
+            opens,
+            aheads,
+            backs,
+            finds,
+            misses,
+            words,
+            turns,
+            counts,
+            known,
+            wrong,
+            sum,
+            ..
+        } = self;
         write!(
             f,
             "{calls} calls, {opens} opens, {aheads} aheads, {backs} backs, {finds} finds, {misses} misses, "
@@ -125,10 +152,6 @@ impl fmt::Display for Tally {
             "{words} words, {turns} turns, {counts} counts ({known} known), "
         )?;
         self.tell_refusals(f)?;
-        let sum = self.replies.iter().fold(0u64, |sum, reply| {
-            sum.wrapping_mul(6_364_136_223_846_793_005)
-                .wrapping_add(digest(*reply))
-        });
         write!(f, ", {wrong} disagreements, sum {sum:016x}")
     }
 }
