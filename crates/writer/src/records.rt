@@ -46,7 +46,7 @@ fn scans_among(words: &[u32]) -> u32
     ensures value { result ≡ count_by is_scan words.now }
     ensures few { result ≤ length words.now }
 {
-    words.iter().filter(|word| is_scan(**word)).count() as u32
+    words.iter().map(|word| u32::from(is_scan(*word))).sum()
 }
 
 // Writes the end over the word at an index: it tells the scans among the words before it.
