@@ -1,6 +1,6 @@
 // Looking ahead in a recording: for the next scan or mark, the next scan, and the end of a mark's more words.
 ghost use Rattle.std.specs.Prelude.{◌≡◌, ◌<◌, ◌≤◌, true, not, [], length, drop, slice_index, slice_range, IfSome, IfNone, position};
-ghost use Rattle.recording.specs.Format.{is_more, is_scan, is_item, items_at, mores, samples_from};
+ghost use Rattle.recording.specs.Format.{is_more, is_scan, is_mark, is_item, items_at, mores, samples_from};
 ghost use Rattle.source.specs.Scans.{first};
 
 use crate::word::{Kind, is_scan};
@@ -12,11 +12,16 @@ fn is_more(word: u32) -> bool
     Kind::of(word) == Kind::More
 }
 
+fn is_mark(word: u32) -> bool
+    ensures { result ≡ is_mark word }
+{
+    Kind::of(word) == Kind::Mark
+}
+
 fn is_item(word: u32) -> bool
     ensures { result ≡ is_item word }
 {
-    let kind = Kind::of(word);
-    kind == Kind::Scan || kind == Kind::Mark
+    is_scan(word) || is_mark(word)
 }
 
 // three of one line each: tried in their callers, where the proof of `position` over a part of the words did not close
