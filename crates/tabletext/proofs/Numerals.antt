@@ -1,13 +1,13 @@
 -- Numbers and the space behind them.
-use Rattle.std.proofs.Common.{◌≡◌, ℕ, ◌+◌, ◌-◌, ◌<◌, ◌≤◌, Bool, true, false, cond, eqb, ltb, List, [], ◌∷◌, length, take, drop, Some, None, Option, refl, sym, ap, ◌∙◌, arith}
+use Rattle.std.proofs.Common.{◌≡◌, ℕ, ◌+◌, ◌<◌, ◌≤◌, Bool, true, false, cond, eqb, ltb, List, [], ◌∷◌, length, take, drop, Some, None, Option, refl, sym, ap, ◌∙◌, arith}
 use Rattle.std.proofs.lemmas.Bool.{ltb-true, ltb-false}
 use Rattle.std.proofs.lemmas.Bool.Decides.{nat_tests}
 use Rattle.std.proofs.lemmas.List.{length-take-le, length-drop, take_all, drop-drop}
-use Rattle.std.specs.List.{position, position_or_len}
+use Rattle.std.specs.List.{position_or_len}
 use Rattle.std.specs.Option.{option_map}
 use Rattle.text.specs.Numbers.{number, front, leading, ends}
 use Rattle.text.proofs.Numerals.{NoDigit, piece, behind, piece_number, piece_front, up_to}
-use Rattle.tabletext.specs.Grammar.{chain, word, behind_space, numeral}
+use Rattle.tabletext.specs.Grammar.{chain, behind_space, numeral}
 
 -- a number with what follows it, and one with what follows its space
 abbrev pub spaced : Option (ℕ × List ℕ) → Option (ℕ × List ℕ)
@@ -49,6 +49,7 @@ module _ (line : List ℕ) where
     where
       same : length (piece space line) ≡ length (front 10 line)
       same = ap (λ (ds : List ℕ). length ds) (piece_front 10 space space_apart line e)
+
       by : (t : Bool) → ltb k (length line) ≡ t → numeral line ≡ Some (n, rest)
       by true f =
           let here : k + 1 ≡ length (front 10 line) + 1 = omega (arith, same, length-take-le k line (omega (arith, ltb-true k (length line) f))) in
@@ -61,6 +62,7 @@ by_leading line = by (number 10 (front 10 line)) (behind 10 line) refl refl
   where
     read : (o : Option ℕ) (rest : List ℕ) → leading 10 line ≡ option_map (λ n. (n, rest)) o → number 10 (piece space line) ≡ up_to space (option_map (λ n. (n, rest)) o)
     read o rest e = piece_number 10 space space_apart line ∙ ap (up_to space) e
+
     by : (o : Option ℕ) (rest : List ℕ) → behind 10 line ≡ rest → leading 10 line ≡ option_map (λ n. (n, rest)) o → numeral line ≡ spaced (leading 10 line)
     by None rest q e = no_number line (read None rest e) ∙ sym (ap spaced e)
     by (Some n) [] q e =

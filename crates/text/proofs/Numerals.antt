@@ -1,13 +1,13 @@
 -- Numbers at a text's front.
 use Rattle.std.proofs.Common.{◌≡◌, ℕ, ◌+◌, ◌*◌, ◌-◌, ◌^◌, ◌<◌, ◌≤◌, Bool, true, false, not, cond, ◌&&◌, leb, ltb, List, [], ◌∷◌, length, get_or, take, drop, Some, None, Option, sym, refl, ap, ◌∙◌, arith}
-use Rattle.std.proofs.lemmas.Bool.{ltb-true, lt-ltb, le-ltb, le-leb, and_parts, and_from, and_left, and_right, cond-true, cond-false}
+use Rattle.std.proofs.lemmas.Bool.{lt-ltb, le-ltb, le-leb, and_parts, and_from, and_left, and_right, cond-true, cond-false}
 use Rattle.std.proofs.lemmas.List.{at_drop_more, at_drop_all, take_rest, length-drop}
 use Rattle.std.proofs.lemmas.List.Sums.{take_while-cons}
 use Rattle.std.specs.Char.{digit_value, is_digit}
 use Rattle.std.specs.List.{list_all, take_while}
 use Rattle.std.specs.Option.{option_map}
 use Rattle.std.specs.Str.Parse.{digits_value_after, digits_value}
-use Rattle.text.specs.Numbers.{is_numeral, value, number, front, leading, ends}
+use Rattle.text.specs.Numbers.{value, number, front, leading, ends}
 use native.Mathlib.Nat.{le-mul_of_pos_right}
 
 -- the elements at the front that pass a test
@@ -81,7 +81,7 @@ module _ (radix : ℕ) (text : List ℕ) (i n : ℕ) (c : Counted radix text i n
   too_large low high large =
       let most = no_less radix n (front radix (drop i text)) (omega (arith, low)) in
       let v = by_tests radix (front radix text) (ltb 0 (length (front radix text))) true false refl (front_passes (λ b. is_digit b radix) text)
-          (le-ltb (digits_value radix (front radix text)) (2 ^ 32) (omega (arith, most, c.0, large))) in
+      (le-ltb (digits_value radix (front radix text)) (2 ^ 32) (omega (arith, most, c.0, large))) in
       sym (ap (option_map (λ m. (m, drop (length (front radix text)) text)))
       (in_radix radix (front radix text) low high ∙ v ∙ cond-false ((ltb 0 (length (front radix text)) && true) && false) (Some (digits_value radix (front radix text))) None (and_right (ltb 0 (length (front radix text)) && true) false refl)))
 
@@ -96,7 +96,7 @@ module _ (radix : ℕ) (text : List ℕ) (i n : ℕ) (low : 2 ≤ radix) (high :
   pub some_digits : 0 < i → n < 2 ^ 32 → Some (n, take (length text - i) (drop i text)) ≡ leading radix text
   some_digits s small =
       let v = by_tests radix (front radix text) true true true (lt-ltb 0 (length (front radix text)) (omega (arith, c.1, s))) (front_passes (λ b. is_digit b radix) text)
-          (lt-ltb (digits_value radix (front radix text)) (2 ^ 32) (omega (arith, c.0, small))) in
+      (lt-ltb (digits_value radix (front radix text)) (2 ^ 32) (omega (arith, c.0, small))) in
       ap (λ l. Some (n, l)) (take_rest text i) ∙ ap (λ k. Some (n, drop k text)) c.1 ∙ ap (λ m. Some (m, drop (length (front radix text)) text)) c.0
       ∙ sym (ap (option_map (λ m. (m, drop (length (front radix text)) text))) (in_radix radix (front radix text) low high ∙ v))
 
@@ -148,6 +148,7 @@ module _ (radix : ℕ) (stop : ℕ → Bool) (apart : NoDigit radix stop) where
     where
       all : List ℕ → Bool
       all = list_all (λ x. is_digit x radix)
+
       by : (d : Bool) → is_digit b radix ≡ d → (s : Bool) → stop b ≡ s → all (piece stop bs) ≡ ends stop (behind radix bs) → all (piece stop (b ∷ bs)) ≡ ends stop (behind radix (b ∷ bs))
       by true e s f h = ap all (piece_more stop b bs false (apart b e)) ∙ ap (λ t. t && all (piece stop bs)) e ∙ h ∙ sym (ap (ends stop) (behind_more radix b bs true e))
       by false e true f h = ap all (piece_more stop b bs true f) ∙ sym (ap (ends stop) (behind_more radix b bs false e) ∙ f)
@@ -197,10 +198,12 @@ shorter radix text p e = by text (tail_of (behind radix text) (number radix (fro
     tail_of : (rest : List ℕ) (o : Option ℕ) → Some p ≡ option_map (λ n. (n, rest)) o → p.1 ≡ rest
     tail_of rest (Some n) h = ap (λ (x : Option (ℕ × List ℕ)). elim x [ Some v ↦ v.1 | None ↦ rest ]) h
     tail_of rest None h = ap (λ (x : Option (ℕ × List ℕ)). elim x [ Some v ↦ v.1 | None ↦ rest ]) h
+
     no_number : (rest ds : List ℕ) → ds ≡ [] → Some p ≡ option_map (λ n. (n, rest)) (number radix ds) → ⊥
     no_number rest ds f h =
         let z : ◌≡◌ {A = ℕ} 1 0 = ap (λ (x : Option (ℕ × List ℕ)). elim x [ Some v ↦ 1 | None ↦ 0 ]) (h ∙ ap (λ xs. option_map (λ n. (n, rest)) (number radix xs)) f ∙ ap (option_map (λ n. (n, rest))) (none_both (leb 2 radix && leb radix 36))) in
         omega arith
+
     by : (xs : List ℕ) → p.1 ≡ behind radix xs → Some p ≡ leading radix xs → length p.1 < length xs
     by [] q h = absurd (no_number [] [] refl h)
     by (b ∷ bs) q h = by_digit (is_digit b radix) refl

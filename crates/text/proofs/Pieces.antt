@@ -1,5 +1,5 @@
 -- Text read piece by piece.
-use Rattle.std.proofs.Common.{◌≡◌, ℕ, ◌+◌, ◌<◌, Bool, true, false, cond, List, [], ◌∷◌, length, get_or, drop, sym, refl, ap, ◌∙◌, arith}
+use Rattle.std.proofs.Common.{◌≡◌, ℕ, ◌+◌, ◌<◌, Bool, true, false, List, [], ◌∷◌, length, get_or, drop, sym, refl, ap, ◌∙◌}
 use Rattle.std.proofs.lemmas.Bool.{false≢true}
 use Rattle.std.proofs.lemmas.List.{at_drop_more}
 use Rattle.std.proofs.lemmas.List.Splits.{slice_split-cons_yes, slice_split-cons_no}
@@ -25,6 +25,7 @@ cut radix stop apart (b ∷ bs) = by (is_digit b radix) refl (stop b) refl (cut 
   where
     longer : (ps : List (List ℕ)) → slice_split stop bs ≡ piece stop bs ∷ ps → stop b ≡ false → slice_split stop (b ∷ bs) ≡ piece stop (b ∷ bs) ∷ ps
     longer ps h f = slice_split-cons_no stop b bs f ∙ ap (onto_first b) h ∙ ap (λ p. p ∷ ps) (sym (piece_more stop b bs false f))
+
     by : (d : Bool) → is_digit b radix ≡ d → (s : Bool) → stop b ≡ s → Cut radix stop bs → Cut radix stop (b ∷ bs)
     by true e s f r =
         let same = behind_more radix b bs true e in

@@ -1,4 +1,4 @@
-use Rattle.std.proofs.Common.{false, cond, Some, None, sym, ap, ◌∙◌, arith}
+use Rattle.std.proofs.Common.{false, cond, Some, None, sym, ap, ◌∙◌}
 use Rattle.text.proofs.Numerals.{up_to, whole, not_at_end}
 use Rattle.text.proofs.number.Goals as goal
 
