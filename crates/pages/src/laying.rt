@@ -11,6 +11,9 @@ use std::array::from_fn;
 // The words of a page.
 pub(crate) const PAGE: usize = 4;
 
+// The most pages of a pool.
+pub(crate) const LARGEST: usize = 1024;
+
 // The pages of a snapshot.
 pub(crate) fn pages_in(width: usize) -> usize
     requires { width ≤ 32 }

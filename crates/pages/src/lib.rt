@@ -9,16 +9,13 @@ ghost use Rattle.paging.specs.Layout.{whole, checking, count as fitting};
 ghost use Rattle.paging.specs.Pages.{shot, slots_few, slots_sized, TidyAll};
 ghost use Rattle.store.specs.Slots.{empty, is_held, putting, puts, getting, got, freeing, frees};
 
-use crate::laying::{PAGE, lay, pages_in, word};
+use crate::laying::{LARGEST, PAGE, lay, pages_in, word};
 use crate::used::{Row, Used};
 use store::{Store, WIDEST, may_free, may_get, may_put};
 use terms::Refusal;
 
 // The most slots.
 const MOST: usize = 32;
-
-// The most pages of a pool.
-const LARGEST: usize = 1024;
 
 /// Slot j holds the snapshot whose pages row j names.
 #[derive(Drop)]

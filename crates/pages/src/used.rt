@@ -1,9 +1,9 @@
 // The numbers of the pages in use.
-ghost use Rattle.std.specs.Prelude.{◌≡◌, ◌+◌, ◌<◌, ◌≤◌, ◌++◌, not, length, drop, slice_index};
+ghost use Rattle.std.specs.Prelude.{◌≡◌, ℕ, ◌+◌, ◌<◌, ◌≤◌, ◌++◌, ◌||◌, false, not, length, drop, slice_index, slice_index_or};
 ghost use Rattle.std.specs.List.{find, list_any, range_with_len};
 ghost use Rattle.paging.specs.Pages.{page, numbers, named, has, distinct, slot_names, same as same_page};
 
-use crate::laying::{PAGE, word};
+use crate::laying::{LARGEST, PAGE, word};
 
 // The numbers of a snapshot's pages; page k of the pool has the number k.
 pub(crate) type Row = [u16; 8];
@@ -33,6 +33,26 @@ fn among(numbers: &[u16], pool: &[u32], content: &[u32; PAGE]) -> Option<u16>
     ensures { result ≡ find (λ k. same_page (page pool.now k) content.now) numbers.now }
 {
     numbers.iter().copied().find(|k| same(pool, *k, content))
+}
+
+// Marks the pages of these numbers.
+fn mark(taken: &mut [bool; LARGEST], numbers: &[u16])
+    ensures { (k : ℕ) → k < 1024 → slice_index_or taken.new k false ≡ (slice_index_or taken.old k false || has numbers.now k) }
+{
+    for number in numbers {
+        let k = usize::from(*number);
+        if k < LARGEST {
+            taken[k] = true;
+        }
+    }
+}
+
+// The first page that is not marked.
+fn unmarked(taken: &[bool; LARGEST], whole: u16) -> Option<u16>
+    requires { whole ≤ 1024 }
+    ensures { result ≡ find (λ k. not (slice_index_or taken.now k false)) (range_with_len 0 whole) }
+{
+    (0..whole).find(|k| !taken[usize::from(*k)])
 }
 
 impl Used<'_> {
@@ -84,11 +104,26 @@ impl Used<'_> {
         among(self.laid, pool, content)
     }
 
-    // The number of the first page that is not in use.
+    // Marks the pages that a row names.
+    fn mark_row(&self, taken: &mut [bool; LARGEST], row: &Row)
+        ensures { (k : ℕ) → k < 1024 → slice_index_or taken.new k false ≡ (slice_index_or taken.old k false || has (numbers self.now.pages row.now) k) }
+    {
+        mark(taken, &row[..self.pages]);
+    }
+
+    // The first page that is not in use.
     pub(crate) fn free(&self, whole: u16) -> Option<u16>
+        requires { whole ≤ 1024 }
         ensures { result ≡ find (λ k. not (has (in_use self.now) k)) (range_with_len 0 whole) }
     {
-        (0..whole).find(|k| !self.has(*k))
+        let mut taken = [false; LARGEST];
+        for slot in self.rows {
+            if let Some(row) = slot {
+                self.mark_row(&mut taken, row);
+            }
+        }
+        mark(&mut taken, self.laid);
+        unmarked(&taken, whole)
     }
 
     // Whether number i of a row stands later in it too, or is in use.
