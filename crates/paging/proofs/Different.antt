@@ -3,7 +3,7 @@ use Rattle.std.proofs.Common.{◌≡◌, ℕ, zero, suc, ◌+◌, ◌-◌, ◌*�
 use Rattle.std.specs.List.{range_with_len, count_by, slice_range}
 use Rattle.std.proofs.lemmas.List.FromFn.{length-map-range_with_len, get_or-map-range_with_len}
 use Rattle.std.proofs.lemmas.List.Sums.{sum_by-cons}
-use Rattle.std.proofs.lemmas.List.{append-nil, get_or_past, map-append, drop_more, drop_all, drop-take}
+use Rattle.std.proofs.lemmas.List.{get_or_past, map-append, drop_more, drop_all, drop-take}
 use Rattle.std.proofs.lemmas.List.Folds.{list_any-append}
 use Rattle.std.proofs.lemmas.Bool.{ne_eqb, eq-eqb, eqb-true, cases_eq, cases_lt}
 use Rattle.paging.specs.Layout.{pages_in, count, whole}
@@ -138,18 +138,6 @@ pub count_used : (rows : List (Option (List ℕ))) (pool : List ℕ) (width n p 
     → distinct (named p (take n rows)) ≡ used rows pool width
 count_used rows pool width n p e f tidy =
     ap (λ m. distinct (named p (take m rows))) e ∙ ap (λ q. distinct (named q (take (count width (length pool)) rows))) f ∙ sym (used_named rows pool width tidy)
-
--- the numbers of rows counted row by row
-pub counted_past : (p : ℕ) (rows : List (Option (List ℕ))) (i : ℕ) → i < length rows → get_or rows i None ≡ None → distinct (named p (drop i rows)) ≡ distinct (named p (drop (i + 1) rows))
-counted_past p rows i lt e = ap (λ l. distinct (named p l)) (drop_more rows i None lt) ∙ ap (λ s. distinct (named p (s ∷ drop (i + 1) rows))) e
-
-pub counted_row : (p : ℕ) (rows : List (Option (List ℕ))) (i : ℕ) (row : List ℕ) (n : ℕ) → i < length rows → get_or rows i None ≡ Some row
-    → n + distinct (named p (drop (i + 1) rows) ++ []) ≡ distinct (numbers p row ++ (named p (drop (i + 1) rows) ++ []))
-    → n + distinct (named p (drop (i + 1) rows)) ≡ distinct (named p (drop i rows))
-counted_row p rows i row n lt e h =
-    ap (λ l. n + distinct l) (sym (append-nil (named p (drop (i + 1) rows)))) ∙ h ∙
-    ap (λ l. distinct (numbers p row ++ l)) (append-nil (named p (drop (i + 1) rows))) ∙
-    sym (ap (λ l. distinct (named p l)) (drop_more rows i None lt) ∙ ap (λ s. distinct (named p (s ∷ drop (i + 1) rows))) e)
 
 -- the numbers of a row counted where they stand last
 pub later_in : (p : ℕ) (row rest : List ℕ) (i k : ℕ) → i < p → p ≤ length row

@@ -2,10 +2,10 @@
 use Rattle.std.proofs.Common.{◌≡◌, ℕ, zero, suc, ◌+◌, ◌<◌, ◌≤◌, Bool, true, false, cond, eqb, ◌==◌, ◌||◌, ◌⊎◌, Option, None, Some, List, [], ◌∷◌, ◌++◌, map, length, get_or, take, drop, replicate, append_assoc, sym, refl, ap, ◌∙◌, inl, inr, ⊎_elim, arith}
 use Rattle.std.specs.List.{list_any, find, range_with_len}
 use Rattle.std.specs.Option.{option_or}
-use Rattle.std.proofs.lemmas.List.Folds.{list_any-append, list_any_at, list_any_more, find-append}
+use Rattle.std.proofs.lemmas.List.Folds.{list_any-append, list_any_at, find-append}
 use Rattle.std.proofs.lemmas.List.FromFn.{length-map-range_with_len, get_or-map-range_with_len}
 use Rattle.std.proofs.lemmas.List.{ext_get_or, get_or-take, length-take-le, drop_more, drop_all}
-use Rattle.std.proofs.lemmas.Bool.{cases_Bool, cases_eq, cond-true, cond-false, ne_eqb, eq-eqb, eqb-true, and_parts, and_from}
+use Rattle.std.proofs.lemmas.Bool.{cases_Bool, cases_eq, cond-true, cond-false, eq-eqb, eqb-true, and_parts, and_from}
 use Rattle.paging.specs.Pages.{numbers, named, has, slot_names, same}
 
 true_or : (a b : Bool) → a ≡ true → (a || b) ≡ true
@@ -22,10 +22,6 @@ or_cases false b e = inr e
 or_none : (a : Bool) → (a || false) ≡ a
 or_none true = refl
 or_none false = refl
-
-or_group : (a b c : Bool) → ((a || b) || c) ≡ (a || (b || c))
-or_group true b c = refl
-or_group false b c = refl
 
 pub has_left : (xs ys : List ℕ) (k : ℕ) → has xs k ≡ true → has (xs ++ ys) k ≡ true
 has_left xs ys k h = list_any-append (λ n. n == k) xs ys ∙ true_or (has xs k) (has ys k) h
@@ -139,28 +135,7 @@ looked_row t p rows laid i row lt e =
     ap (find t) (append_assoc (numbers p row) (named p (drop (i + 1) rows)) laid) ∙
     find-append t (numbers p row) (named p (drop (i + 1) rows) ++ laid)
 
--- pages marked number by number and row by row
-pub marked_more : (marks old : List Bool) (ks : List ℕ) (i k : ℕ) → i < length ks → get_or marks k false ≡ (get_or old k false || has (take i ks) k) → (get_or ks i 0 ≡ k → ⊥)
-    → get_or marks k false ≡ (get_or old k false || has (take (i + 1) ks) k)
-marked_more marks old ks i k lt e ne =
-    e ∙ ap (λ b. get_or old k false || b) (sym (list_any_more (λ n. n == k) ks i 0 lt ∙ ap (λ b. has (take i ks) k || b) (ne_eqb (get_or ks i 0) k ne) ∙ or_none (has (take i ks) k)))
-
-pub marked_one : (old : List Bool) (ks : List ℕ) (i k : ℕ) → i < length ks → get_or ks i 0 ≡ k → true ≡ (get_or old k false || has (take (i + 1) ks) k)
-marked_one old ks i k lt e =
-    sym (or_true (get_or old k false) (has (take (i + 1) ks) k) (list_any_more (λ n. n == k) ks i 0 lt ∙ or_true (has (take i ks) k) (get_or ks i 0 == k) (eq-eqb (get_or ks i 0) k e)))
-
-pub marked_past : (p : ℕ) (rows : List (Option (List ℕ))) (i k : ℕ) (mark : Bool) → i < length rows → get_or rows i None ≡ None → (mark || has (named p (drop i rows)) k) ≡ has (named p rows) k
-    → (mark || has (named p (drop (i + 1) rows)) k) ≡ has (named p rows) k
-marked_past p rows i k mark lt e h =
-    sym (ap (λ l. mark || has (named p l) k) (drop_more rows i None lt) ∙ ap (λ s. mark || has (named p (s ∷ drop (i + 1) rows)) k) e) ∙ h
-
-pub marked_row : (p : ℕ) (rows : List (Option (List ℕ))) (i k : ℕ) (row : List ℕ) (mark mark' : Bool) → i < length rows → get_or rows i None ≡ Some row → mark' ≡ (mark || has (numbers p row) k)
-    → (mark || has (named p (drop i rows)) k) ≡ has (named p rows) k → (mark' || has (named p (drop (i + 1) rows)) k) ≡ has (named p rows) k
-marked_row p rows i k row mark mark' lt e m h =
-    ap (λ b. b || has (named p (drop (i + 1) rows)) k) m ∙
-    or_group mark (has (numbers p row) k) (has (named p (drop (i + 1) rows)) k) ∙
-    sym (ap (λ l. mark || has (named p l) k) (drop_more rows i None lt) ∙ ap (λ s. mark || has (named p (s ∷ drop (i + 1) rows)) k) e ∙ ap (λ b. mark || b) (list_any-append (λ n. n == k) (numbers p row) (named p (drop (i + 1) rows)))) ∙ h
-
+-- pages marked row by row: none at first
 pub marked_none : (p : ℕ) (rows : List (Option (List ℕ))) (n k : ℕ) → (get_or (replicate n false) k false || has (named p rows) k) ≡ has (named p rows) k
 marked_none p rows n k = ap (λ b. b || has (named p rows) k) (bare n k)
   where
