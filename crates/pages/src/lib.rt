@@ -147,7 +147,7 @@ impl<'a> Store for Pages<'a> {
     {
         let slots = self.capacity();
         may_put(slots, self.width, slot, words.len())?;
-        self.rows[slot] = None;
+        self.rows[slot] = None; // its pages are given back first
         let pages = pages_in(self.width);
         let row = lay(&self.rows[..slots], self.words, pages, words);
         self.rows[slot] = Some(row);
@@ -173,7 +173,7 @@ impl<'a> Store for Pages<'a> {
         ensures lent { self.new.words.ghost_name ≡ self.old.words.ghost_name }
     {
         may_free(self.capacity(), slot, self.is_held(slot))?;
-        self.rows[slot] = None;
+        self.rows[slot] = None; // and with it its pages
         Ok(())
     }
 

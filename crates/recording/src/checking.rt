@@ -4,7 +4,7 @@ ghost use Rattle.std.specs.Result.{result_err};
 ghost use Rattle.recording.specs.Format.{fault_at};
 ghost use Rattle.std.specs.Prelude.{◌≡◌};
 
-use crate::word::{Kind, LONGEST, content_of};
+use crate::word::{LONGEST, content_of, is_end, is_more, is_scan, is_unknown};
 use terms::{Place, Refusal};
 
 // Refuses a word at a place with its fault, tried in the order of the refusals' numbers: `scans` stand before it, `after`
@@ -13,15 +13,13 @@ fn judge(index: u32, scans: u32, after: bool, over: bool, word: u32) -> Result<(
     ensures { result_err result ≡ fault_at index scans after over word }
 {
     let place = Place(index);
-    let kind = Kind::of(word);
-    // comparisons one after the other and no `match`: over words of mixed kinds a jump by the kind takes twice the time
-    if kind == Kind::More && (index == 0 || after) {
+    if is_more(word) && (index == 0 || after) {
         return Err(Refusal::StrayMore(place));
     }
-    if kind == Kind::Unknown {
+    if is_unknown(word) {
         return Err(Refusal::UnknownKind(place));
     }
-    if kind == Kind::End && content_of(word) != scans {
+    if is_end(word) && content_of(word) != scans {
         return Err(Refusal::WrongTotal(place));
     }
     if over {
@@ -43,10 +41,9 @@ pub(crate) fn tally(words: &[u32]) -> Result<u32, Refusal>
     // a loop and not a fold, which is no plainer: three values are carried, and the first fault ends it
     for (i, word) in words.iter().enumerate() {
         judge(i as u32, scans, after, over, *word)?;
-        let kind = Kind::of(*word);
-        after = kind == Kind::Scan;
+        after = is_scan(*word);
         scans += u32::from(after);
-        over |= kind == Kind::End;
+        over |= is_end(*word);
     }
     if over {
         Ok(scans)

