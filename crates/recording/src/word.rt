@@ -54,13 +54,6 @@ pub fn word_of(kind: Kind, value: u32) -> u32
     ((kind as u32) << 28) + content_of(value)
 }
 
-/// Whether a word is a scan.
-pub fn is_scan(word: u32) -> bool
-    ensures { result ≡ is_scan word }
-{
-    top(word) == Kind::Scan as u32
-}
-
 // The number of a word's kind.
 fn top(word: u32) -> u32
     ensures { result ≡ kind word }
@@ -68,7 +61,15 @@ fn top(word: u32) -> u32
     word >> 28
 }
 
-// Tests of one kind each, by its number: over words of mixed kinds a jump by `Kind::of` takes three times as long.
+// Tests of one kind each, by its number: over words of mixed kinds a branch on `Kind::of` takes longer.
+
+/// Whether a word is a scan.
+pub fn is_scan(word: u32) -> bool
+    ensures { result ≡ is_scan word }
+{
+    top(word) == Kind::Scan as u32
+}
+
 pub(crate) fn is_more(word: u32) -> bool
     ensures { result ≡ is_more word }
 {
